@@ -1,0 +1,120 @@
+-- A rule is broken or holds, so the answer is that of the first that is broken, by induction over the list. Assumes nothing.
+use mathlib.Core.Path.{_≡_, refl, sym, ap, _∙_}
+use mathlib.Core.Logic.{_⊎_, inl, inr, _↔_}
+use mathlib.Core.Bool.{Bool, true, false, cond, _&&_}
+use mathlib.Core.List.{List, [], _∷_, _++_}
+use Prim.Native.Nat.{ℕ, _<_}
+use native.Mathlib.Omega.{arith}
+use lib.Dec.{T, ltb, eqb, ltb→lt}
+use Rattle.answers.specs.Rules.{Rule, rule, firstOf, AllHold, First, numbered, testOf, numbers, OneOf}
+
+-- a test is true or false
+pub either : (b : Bool) → (b ≡ true) ⊎ (b ≡ false)
+either true = inl refl
+either false = inr refl
+
+and-split : (a b : Bool) → T (a && b) → T a × T b
+and-split true b h = (tt, h)
+and-split false b h = absurd h
+
+module _ (r : Rule) (rs : List Rule) where
+  pub broke : r .broken ≡ true → firstOf (r ∷ rs) ≡ r .number
+  unfolding firstOf
+  broke e = rw e
+
+  pub held : r .broken ≡ false → firstOf (r ∷ rs) ≡ firstOf rs
+  unfolding firstOf
+  held e = rw e
+
+  above : T (numbered (r ∷ rs)) → (0 < r .number) × T (numbered rs)
+  above t = let s = and-split (ltb 0 (r .number)) (numbered rs) t in (ltb→lt 0 (r .number) (s .0), s .1)
+
+-- where every rule holds, those after them decide
+pub all-hold : (rs ts : List Rule) → AllHold rs → firstOf (rs ++ ts) ≡ firstOf ts
+all-hold [] ts h = refl
+all-hold (r ∷ rs) ts h = held r (rs ++ ts) (h .0) ∙ all-hold rs ts (h .1)
+
+of-none : (rs : List Rule) → AllHold rs → firstOf rs ≡ 0
+unfolding firstOf
+of-none [] h = refl
+of-none (r ∷ rs) h = held r rs (h .0) ∙ of-none rs (h .1)
+
+to-none : (rs : List Rule) → T (numbered rs) → firstOf rs ≡ 0 → AllHold rs
+to-none [] t h = tt
+to-none (r ∷ rs) t h =
+    let a = above r rs t in
+    elim (either (r .broken)) [
+      | inl e ↦ absurd (omega (arith, broke r rs e, h, a .0))
+      | inr e ↦ (e, to-none rs (a .1) (sym (held r rs e) ∙ h))
+    ]
+
+-- answer 0 exactly where every rule holds
+pub none-broken : (rs : List Rule) → T (numbered rs) → (firstOf rs ≡ 0) ↔ AllHold rs
+none-broken rs t = (λ h. to-none rs t h, λ h. of-none rs h)
+
+to-first : (n : ℕ) (rs : List Rule) → 0 < n → firstOf rs ≡ n → First n rs
+unfolding firstOf
+to-first n [] p h = absurd (omega (arith, h))
+to-first n (r ∷ rs) p h =
+    elim (either (r .broken)) [
+      | inl e ↦
+          let q : r ≡ rule n true = λ i. record { number = (sym (broke r rs e) ∙ h) i; broken = e i } in
+          record { before = []; rest = rs; order = ap (λ (x : Rule). x ∷ rs) q; hold = tt }
+      | inr e ↦
+          let f : First n rs = to-first n rs p (sym (held r rs e) ∙ h) in
+          record { before = r ∷ f .before; rest = f .rest; order = ap (_∷_ r) (f .order); hold = (e, f .hold) }
+    ]
+
+of-first : (n : ℕ) (rs : List Rule) → First n rs → firstOf rs ≡ n
+of-first n rs f = ap firstOf (f .order) ∙ all-hold (f .before) (rule n true ∷ f .rest) (f .hold) ∙ broke (rule n true) (f .rest) refl
+
+-- answer n above 0 exactly where a rule numbered n is broken and every rule before it holds
+pub first-broken : (n : ℕ) (rs : List Rule) → 0 < n → (firstOf rs ≡ n) ↔ First n rs
+first-broken n rs p = (λ h. to-first n rs p h, λ f. of-first n rs f)
+
+picked : (t b : Bool) (x : Bool) → b ≡ false → x ≡ false → cond t b x ≡ false
+picked true b x e f = e
+picked false b x e f = f
+
+held-test : (n : ℕ) (rs : List Rule) → AllHold rs → testOf n rs ≡ false
+held-test n [] h = refl
+held-test n (r ∷ rs) h = picked (eqb (r .number) n) (r .broken) (testOf n rs) (h .0) (held-test n rs (h .1))
+
+-- where the answer is 0 the rule numbered n holds
+pub rule-holds : (n : ℕ) (rs : List Rule) → T (numbered rs) → firstOf rs ≡ 0 → testOf n rs ≡ false
+rule-holds n rs t h = held-test n rs (to-none rs t h)
+
+-- two lists end to end: where the first answers 0 the second decides
+pub then : (rs ts : List Rule) → T (numbered rs) → firstOf rs ≡ 0 → firstOf (rs ++ ts) ≡ firstOf ts
+then rs ts t h = all-hold rs ts (to-none rs t h)
+
+-- and where it answers another number, that number stands
+pub stop : (rs ts : List Rule) → (firstOf rs ≡ 0 → ⊥) → firstOf (rs ++ ts) ≡ firstOf rs
+unfolding firstOf
+stop [] ts h = absurd (h refl)
+stop (r ∷ rs) ts h =
+    elim (either (r .broken)) [
+      | inl e ↦ broke r (rs ++ ts) e ∙ sym (broke r rs e)
+      | inr e ↦ held r (rs ++ ts) e ∙ stop rs ts (λ z. h (held r rs e ∙ z)) ∙ sym (held r rs e)
+    ]
+
+-- lists end to end hold exactly where both do
+pub both-hold : (rs ts : List Rule) → AllHold (rs ++ ts) ↔ (AllHold rs × AllHold ts)
+both-hold [] ts = (λ h. (tt, h), λ h. h .1)
+both-hold (r ∷ rs) ts =
+    let k = both-hold rs ts in
+    (λ h. let g = k .0 (h .1) in ((h .0, g .0), g .1), λ h. (h .0 .0, k .1 (h .0 .1, h .1)))
+
+one-more : (n m : ℕ) (ms : List ℕ) → OneOf (0 ∷ ms) n → OneOf (0 ∷ m ∷ ms) n
+one-more n m ms (inl e) = inl e
+one-more n m ms (inr e) = inr (inr e)
+
+-- the answer is 0 or the number of one of the rules
+pub listed : (rs : List Rule) → OneOf (0 ∷ numbers rs) (firstOf rs)
+unfolding firstOf
+listed [] = inl refl
+listed (r ∷ rs) =
+    elim (either (r .broken)) [
+      | inl e ↦ inr (inl (broke r rs e))
+      | inr e ↦ rw (held r rs e) (one-more (firstOf rs) (r .number) (numbers rs) (listed rs))
+    ]
