@@ -1,6 +1,6 @@
--- `Parts`: what is in a part of a list, and what a list holds after a part was laid into it. `Numbers`: the laws of numbers of
--- bytes, over the width. `Bytes`: what keeps a list of bytes one.
+-- `Parts`: what is in a part of a list, and what a list holds after a part was laid into it. `Below`: what keeps a list of bytes
+-- one. `Numbers`: the laws of numbers of bytes, over the width. `Laid`: a number written in two halves.
 pub mod Parts
+pub mod Below
 pub mod Numbers
-pub mod Bytes
-pub mod Laid
+mod Laid

@@ -3,21 +3,21 @@
 use mathlib.Core.Path.{_≡_, refl, sym, ap, subst, _∙_}
 use mathlib.Core.List.{List, [], _∷_, _++_, reverse, reverse-append, reverse-reverse}
 use Prim.Native.Nat.{ℕ, zero, suc, _+_, _-_, _*_, _/_, _%_, _^_, _≤_, _<_}
-use native.Mathlib.Nat.{pow-suc, pow-succ', one-le-pow, mul-assoc, suc-add, zero-add, div-div-eq-div-mul}
+use native.Mathlib.Nat.{pow-suc, pow-succ', one-le-pow, mul-assoc, suc-add, zero-add, div-div-eq-div-mul, div-eq-of-lt}
 use native.Mathlib.Omega.{arith}
 use lib.Arith.{mod-mul}
-use lib.ListN.{length, getD, take, drop, length-drop, length-reverse}
-use lib.Seq.{paste, take-add, take-nil, drop-drop, length-take-le}
+use lib.ListN.{replicate, length, getD, take, drop, length-drop, length-reverse}
+use lib.Seq.{paste, take-add, take-nil, take-at, drop-drop, drop-append-add, length-take-le}
 use Rattle.octets.specs.Octets.{Bytes, le, leBytes, leAt, be, beBytes, beAt}
-use Rattle.octets.proofs.Bytes.{tail-bytes, take-bytes, drop-bytes, reverse-bytes}
-use Rattle.octets.proofs.Parts.{part-part, part-paste}
+use Rattle.octets.proofs.Below.{tail-below, take-below, drop-below, reverse-below}
+use Rattle.octets.proofs.Parts.{part-part, part-paste, reverse-replicate}
 
 -- a part within a list: its length, and that it is bytes
 part-long : (n at : ℕ) (s : List ℕ) → at + n ≤ length s → length (take n (drop at s)) ≡ n
 part-long n at s h = length-take-le n (drop at s) (simp length-drop (omega arith))
 
 part-bytes : (n at : ℕ) (s : List ℕ) → Bytes s → Bytes (take n (drop at s))
-part-bytes n at s b = take-bytes n (drop at s) (drop-bytes at s b)
+part-bytes n at s b = take-below n (drop at s) (drop-below at s b)
 
 pub length-leBytes : (n v : ℕ) → length (leBytes n v) ≡ n
 unfolding leBytes
@@ -32,7 +32,7 @@ length-beBytes n v = length-reverse (leBytes n v) ∙ length-leBytes n v
 pub le-lt : (s : List ℕ) → Bytes s → le s < 256 ^ length s
 unfolding le
 le-lt [] b = omega arith
-le-lt (x ∷ s) b = rw pow-succ' (omega (arith, le-lt s (tail-bytes b), b .at 0))
+le-lt (x ∷ s) b = rw pow-succ' (omega (arith, le-lt s (tail-below b), b .at 0))
 
 pub leAt-lt : (n o : ℕ) (s : List ℕ) → Bytes s → o + n ≤ length s → leAt n o s < 256 ^ n
 unfolding leAt
@@ -41,7 +41,7 @@ leAt-lt n o s b h = rw (part-long n o s h) at (le-lt (take n (drop o s)) (part-b
 pub beAt-lt : (n o : ℕ) (s : List ℕ) → Bytes s → o + n ≤ length s → beAt n o s < 256 ^ n
 unfolding beAt be
 beAt-lt n o s b h =
-    rw (length-reverse, part-long n o s h) at (le-lt (reverse (take n (drop o s))) (reverse-bytes (take n (drop o s)) (part-bytes n o s b)))
+    rw (length-reverse, part-long n o s h) at (le-lt (reverse (take n (drop o s))) (reverse-below (take n (drop o s)) (part-bytes n o s b)))
 
 -- ---- written and read back
 
@@ -64,12 +64,12 @@ leBytes-le [] b = refl
 leBytes-le (x ∷ s) b =
     let low : (x + 256 * le s) % 256 ≡ x = omega (arith, b .at 0) in
     let high : (x + 256 * le s) / 256 ≡ le s = omega (arith, b .at 0) in
-    rw (low, high, leBytes-le s (tail-bytes b))
+    rw (low, high, leBytes-le s (tail-below b))
 
 pub beBytes-be : (s : List ℕ) → Bytes s → beBytes (length s) (be s) ≡ s
 unfolding be beBytes
 beBytes-be s b =
-    ap reverse (rw length-reverse at (leBytes-le (reverse s) (reverse-bytes s b))) ∙ reverse-reverse s
+    ap reverse (rw length-reverse at (leBytes-le (reverse s) (reverse-below s b))) ∙ reverse-reverse s
 
 -- ---- run after run
 
@@ -122,6 +122,19 @@ le-take (suc n) m [] = rw (take-nil (suc n + m), take-nil m) (omega arith)
 le-take (suc n) m (b ∷ s) =
     let e : 256 ^ suc n * le (take m (drop n s)) ≡ 256 * (256 ^ n * le (take m (drop n s))) = rw (pow-succ', mul-assoc) in
     rw suc-add (omega (arith, le-take n m s, e))
+
+-- a number of n bytes in more than n: zeros above it
+leBytes-zero : (n : ℕ) → leBytes n 0 ≡ replicate n 0
+unfolding leBytes
+leBytes-zero zero = refl
+leBytes-zero (suc n) = ap (_∷_ 0) (leBytes-zero n)
+
+pub leBytes-wide : (n m v : ℕ) → v < 256 ^ n → leBytes (n + m) v ≡ leBytes n v ++ replicate m 0
+leBytes-wide n m v h = rw (leBytes-add, div-eq-of-lt h, leBytes-zero)
+
+pub beBytes-wide : (n m v : ℕ) → v < 256 ^ n → beBytes (n + m) v ≡ replicate m 0 ++ beBytes n v
+unfolding beBytes
+beBytes-wide n m v h = ap reverse (leBytes-wide n m v h) ∙ rw (reverse-append, reverse-replicate)
 
 -- n + m bytes at a place: the first n, and the m after them
 pub leAt-add : (n m o : ℕ) (s : List ℕ) → leAt (n + m) o s ≡ leAt n o s + 256 ^ n * leAt m (o + n) s
@@ -179,3 +192,20 @@ leAt-part n o m a s h = ap le (part-part n o m a s h)
 pub beAt-part : (n o m a : ℕ) (s : List ℕ) → o + n ≤ m → beAt n o (take m (drop a s)) ≡ beAt n (a + o) s
 unfolding beAt
 beAt-part n o m a s h = ap be (part-part n o m a s h)
+
+-- a number at the front of a list, and one past its front
+pub leAt-here : (n v : ℕ) (s : List ℕ) → v < 256 ^ n → leAt n 0 (leBytes n v ++ s) ≡ v
+unfolding leAt
+leAt-here n v s h = ap le (take-at (leBytes n v) s n (length-leBytes n v)) ∙ le-leBytes n v h
+
+pub beAt-here : (n v : ℕ) (s : List ℕ) → v < 256 ^ n → beAt n 0 (beBytes n v ++ s) ≡ v
+unfolding beAt
+beAt-here n v s h = ap be (take-at (beBytes n v) s n (length-beBytes n v)) ∙ be-beBytes n v h
+
+pub leAt-past : (n o : ℕ) (x s : List ℕ) → leAt n (length x + o) (x ++ s) ≡ leAt n o s
+unfolding leAt
+leAt-past n o x s = rw drop-append-add
+
+pub beAt-past : (n o : ℕ) (x s : List ℕ) → beAt n (length x + o) (x ++ s) ≡ beAt n o s
+unfolding beAt
+beAt-past n o x s = rw drop-append-add

@@ -1,11 +1,11 @@
 -- Parts of lists, taken out and laid in. Assumes nothing.
-use mathlib.Core.Path.{_≡_, sym, ap, _∙_}
-use mathlib.Core.List.{List, [], _∷_, _++_, append-nil, append-assoc}
+use mathlib.Core.Path.{_≡_, refl, sym, ap, _∙_}
+use mathlib.Core.List.{List, [], _∷_, _++_, reverse, append-nil, append-assoc, reverse-cons}
 use Prim.Native.Nat.{ℕ, zero, suc, _+_, _-_, _≤_, _<_}
 use native.Mathlib.Nat.{add-assoc, zero-add, suc-add, sub-zero, zero-sub, suc-sub-suc}
 use native.Mathlib.Numerals.{add-one}
 use native.Mathlib.Omega.{arith}
-use lib.ListN.{length, getD, take, drop, set, replicate, length-append, drop-of-length-le, take-append-drop}
+use lib.ListN.{length, getD, take, drop, set, replicate, length-append, drop-of-length-le, take-append-drop, replicate-append-replicate}
 use lib.Seq.{paste, paste-suc, take-all, take-nil, drop-nil, take-take, take-add, take-at, drop-at, drop-drop, take-paste, drop-paste, drop-append-add, length-take-le}
 
 module _ {A : Type 0} where
@@ -27,6 +27,10 @@ module _ {A : Type 0} where
   drop-replicate (suc o) zero x = rw zero-sub
   drop-replicate (suc o) (suc n) x = rw suc-sub-suc (drop-replicate o n x)
 
+  pub reverse-replicate : (n : ℕ) (x : A) → reverse (replicate n x) ≡ replicate n x
+  reverse-replicate zero x = refl
+  reverse-replicate (suc n) x = reverse-cons x (replicate n x) ∙ rw (reverse-replicate n x, replicate-append-replicate n 1 x, add-one)
+
   -- a turn of a loop that lays s at `at`
   pub paste-more : (d s out : List A) (at i : ℕ) (v z : A) → at + i < length d → i < length s → out ≡ paste d at s i → v ≡ getD s i z
       → set out (at + i) v ≡ paste d at s (i + 1)
@@ -47,6 +51,13 @@ module _ {A : Type 0} where
   pub paste-next : (p s d : List A) (at n : ℕ) → length p ≡ at → length s ≡ n → paste (p ++ d) at s n ≡ (p ++ s) ++ drop n d
   paste-next p s d at n hp hs =
       rw (take-at p d at hp, take-all n s (omega arith), ← hp, drop-append-add)
+
+  -- the same in a buffer that is filled from its front, z standing from there on
+  pub fill-next : (p s x y : List A) (at n m : ℕ) (z : A) → length p ≡ at → length s ≡ n → x ≡ p ++ replicate (n + m) z → y ≡ paste x at s n
+      → y ≡ (p ++ s) ++ replicate m z
+  fill-next p s x y at n m z hp hs e f =
+      let left : n + m - n ≡ m = omega arith in
+      f ∙ ap (λ (l : List A). paste l at s n) e ∙ paste-next p s (replicate (n + m) z) at n hp hs ∙ rw (drop-replicate, left)
 
   -- a list laid up to the end of another, or past it
   pub paste-end : (d s : List A) (at n : ℕ) → length s ≡ n → length d ≤ at + n → paste d at s n ≡ take at d ++ s

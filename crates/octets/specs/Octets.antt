@@ -4,9 +4,13 @@ use Prim.Native.Nat.{ℕ, zero, suc, _+_, _-_, _*_, _/_, _%_, _<_}
 use mathlib.Core.List.{List, [], _∷_, _++_, reverse}
 use lib.ListN.{length, getD, take, drop, replicate}
 
--- every element is a byte (past the end `getD` gives 0)
-pub record Bytes (s : List ℕ) : Type 0 where
-  pub at : (i : ℕ) → getD s i 0 < 256
+-- every element is below n (past the end `getD` gives 0, so n is above 0)
+pub record Below (n : ℕ) (s : List ℕ) : Type 0 where
+  pub at : (i : ℕ) → getD s i 0 < n
+
+-- every element is a byte
+abbrev pub Bytes : List ℕ → Type 0
+Bytes s = Below 256 s
 
 -- the number that bytes make, low byte first
 unfoldable pub le : List ℕ → ℕ

@@ -1,7 +1,8 @@
+-- Two bytes, the first worth 256 times the second.
 use Prim.Native.Nat.{_+_}
 use native.Mathlib.Omega.{arith}
-use Rattle.octets.proofs.Numbers.{beAt-add, beAt-one}
 use borrow.Author.Needs.{needs}
+use Rattle.octets.proofs.Numbers.{beAt-add, beAt-one}
 use Rattle.octets.proofs.be16.Statement.{statement}
 use Rattle.octets.proofs.be16.Tie as tie
 

@@ -1,6 +1,7 @@
+-- The high half, and the low half below it.
 use native.Mathlib.Omega.{arith}
-use Rattle.octets.proofs.Numbers.{beAt-add}
 use borrow.Author.Needs.{needs}
+use Rattle.octets.proofs.Numbers.{beAt-add}
 use Rattle.octets.proofs.be32.Statement.{statement}
 use Rattle.octets.proofs.be32.Tie as tie
 

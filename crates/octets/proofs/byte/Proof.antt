@@ -1,6 +1,7 @@
+-- Past the end `getD` gives its default, 0.
 use mathlib.Core.Path.{sym}
-use lib.ListN.{List·getD-eq-default}
 use borrow.Author.Needs.{needs}
+use lib.ListN.{List·getD-eq-default}
 use Rattle.octets.proofs.byte.Statement.{statement}
 use Rattle.octets.proofs.byte.Tie as tie
 

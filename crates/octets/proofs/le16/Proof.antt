@@ -1,7 +1,8 @@
+-- Two bytes, the second worth 256 times the first.
 use Prim.Native.Nat.{_+_}
 use native.Mathlib.Omega.{arith}
-use Rattle.octets.proofs.Numbers.{leAt-add, leAt-one}
 use borrow.Author.Needs.{needs}
+use Rattle.octets.proofs.Numbers.{leAt-add, leAt-one}
 use Rattle.octets.proofs.le16.Statement.{statement}
 use Rattle.octets.proofs.le16.Tie as tie
 

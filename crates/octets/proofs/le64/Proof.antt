@@ -1,6 +1,7 @@
+-- The low half, and the high half above it.
 use native.Mathlib.Omega.{arith}
-use Rattle.octets.proofs.Numbers.{leAt-add}
 use borrow.Author.Needs.{needs}
+use Rattle.octets.proofs.Numbers.{leAt-add}
 use Rattle.octets.proofs.le64.Statement.{statement}
 use Rattle.octets.proofs.le64.Tie as tie
 

@@ -2,8 +2,8 @@
 use mathlib.Core.Path.{_≡_, _∙_}
 use Prim.Native.Nat.{_/_, _%_}
 use native.Mathlib.Omega.{arith}
-use Rattle.octets.specs.Octets.{leBytes}
 use borrow.Author.Needs.{needs}
+use Rattle.octets.specs.Octets.{leBytes}
 use Rattle.octets.proofs.put_le16.Statement.{statement}
 use Rattle.octets.proofs.put_le16.Tie as tie
 

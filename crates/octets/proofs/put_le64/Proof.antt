@@ -1,7 +1,7 @@
 -- Two halves, one after the other.
 use native.Mathlib.Omega.{arith}
-use Rattle.octets.proofs.Laid.{low-first}
 use borrow.Author.Needs.{needs}
+use Rattle.octets.proofs.Laid.{low-first}
 use Rattle.octets.proofs.put_le64.Statement.{statement}
 use Rattle.octets.proofs.put_le64.Tie as tie
 

@@ -1,10 +1,10 @@
 -- Two stores in a row are a run of two.
-use lib.ListN.{length-set}
-use lib.Seq.{sets-eq}
-use native.Mathlib.Numerals.{add-one}
 use mathlib.Core.List.{[], _∷_}
+use native.Mathlib.Numerals.{add-one}
 use native.Mathlib.Omega.{arith}
 use borrow.Author.Needs.{needs}
+use lib.ListN.{length-set}
+use lib.Seq.{sets-eq}
 use Rattle.octets.proofs.put_pair.Statement.{statement}
 use Rattle.octets.proofs.put_pair.Tie as tie
 

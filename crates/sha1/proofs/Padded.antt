@@ -1,0 +1,108 @@
+-- The last blocks are laid over zeros: what is left of the message, its one bit, and its length. Assumes nothing.
+use mathlib.Core.Path.{_≡_, refl, sym, ap, _∙_}
+use mathlib.Core.List.{List, [], _∷_, _++_, append-nil, append-assoc}
+use Prim.Native.Nat.{ℕ, suc, _+_, _-_, _*_, _/_, _%_, _≤_}
+use native.Mathlib.Omega.{arith}
+use lib.ListN.{length, take, drop, set, replicate, length-append, length-drop, length-replicate, replicate-append-replicate}
+use lib.Seq.{paste, set-at, take-all, take-at, take-append-le, drop-append-le}
+use Rattle.octets.specs.Octets.{beBytes}
+use Rattle.octets.proofs.Numbers.{length-beBytes, beBytes-wide}
+use Rattle.octets.proofs.Parts.{paste-next, drop-replicate, fill-next}
+use Rattle.sha1.specs.Sha1 as fips
+use Rattle.sha1.specs.declared.State.{State}
+use Rattle.sha1.proofs.Chains.{chain-same, chain-add}
+
+-- the zeros between the one bit and the length field
+abbrev zeros : ℕ → ℕ
+zeros n = (119 - n % 64) % 64
+
+pub length-pad : (m : List ℕ) → length (fips.pad m) ≡ 64 * ((length m + 72) / 64)
+unfolding fips.pad
+length-pad m = simp (length-append, length-replicate, length-beBytes) (omega arith)
+
+-- what stands before and past a place of the first of three runs
+front : (m x y : List ℕ) (f : ℕ) → f ≤ length m → take f ((m ++ x) ++ y) ≡ take f m
+front m x y f h = take-append-le f (m ++ x) y (rw length-append (omega arith)) ∙ take-append-le f m x h
+
+past : (m x y : List ℕ) (f : ℕ) → f ≤ length m → drop f ((m ++ x) ++ y) ≡ (drop f m ++ x) ++ y
+past m x y f h = drop-append-le f (m ++ x) y (rw length-append (omega arith)) ∙ ap (λ (l : List ℕ). l ++ y) (drop-append-le f m x h)
+
+-- the padded message begins with the message
+pad-take : (m : List ℕ) (f : ℕ) → f ≤ length m → take f m ≡ take f (fips.pad m)
+unfolding fips.pad
+pad-take m f h = sym (front m (0x80 ∷ replicate (zeros (length m)) 0) (beBytes 8 (8 * length m)) f h)
+
+-- the zeros before the length field and the field's own are one run
+one-run : (s b : List ℕ) (z k : ℕ) → (s ++ 0x80 ∷ replicate z 0) ++ (replicate k 0 ++ b) ≡ (s ++ 0x80 ∷ replicate (z + k) 0) ++ b
+one-run s b z k = rw (← replicate-append-replicate {A = ℕ} z k 0) (simp append-assoc)
+
+-- past a place of the message: its rest, the one bit, zeros, and the length in four bytes
+pub pad-drop : (m : List ℕ) (f : ℕ) → f ≤ length m → length m ≤ 65536
+    → drop f (fips.pad m) ≡ (drop f m ++ 0x80 ∷ replicate (zeros (length m) + 4) 0) ++ beBytes 4 (8 * length m)
+unfolding fips.pad
+pad-drop m f h g =
+    past m (0x80 ∷ replicate (zeros (length m)) 0) (beBytes 8 (8 * length m)) f h
+    ∙ ap (λ (l : List ℕ). (drop f m ++ 0x80 ∷ replicate (zeros (length m)) 0) ++ l) (beBytes-wide 4 4 (8 * length m) (omega arith))
+    ∙ one-run (drop f m) (beBytes 4 (8 * length m)) (zeros (length m)) 4
+
+-- s, the one bit and k zeros, then b, laid over zeros
+laid : (s b t₁ t₂ : List ℕ) (r k j : ℕ) → length s ≡ r → length b ≡ 4 → r + suc (k + j) ≡ 128 → t₁ ≡ paste (replicate 128 0) 0 s r
+    → t₂ ≡ paste (set t₁ r 0x80) (r + suc k) b 4 → take (r + suc k + 4) t₂ ≡ (s ++ 0x80 ∷ replicate k 0) ++ b
+laid s b t₁ t₂ r k j hs hb h e₁ e₂ =
+    let rest : drop r (replicate {A = ℕ} 128 0) ≡ 0 ∷ replicate (k + j) 0 =
+    ap (λ (n : ℕ). drop r (replicate {A = ℕ} n 0)) (sym h) ∙ drop-replicate r (r + suc (k + j)) 0 ∙ ap (λ (n : ℕ). replicate {A = ℕ} n 0) (more r (k + j)) in
+    let y : t₁ ≡ s ++ 0 ∷ replicate (k + j) 0 = e₁ ∙ paste-next [] s (replicate 128 0) 0 r refl hs ∙ ap (λ (l : List ℕ). s ++ l) rest in
+    let x : set t₁ r 0x80 ≡ (s ++ 0x80 ∷ replicate k 0) ++ replicate j 0 =
+    rw (y, set-at s 0 (replicate (k + j) 0) 0x80 r hs, ← replicate-append-replicate {A = ℕ} k j 0) (sym (append-assoc s (0x80 ∷ replicate k 0) (replicate j 0))) in
+    let l : length (s ++ 0x80 ∷ replicate k 0) ≡ r + suc k = simp (length-append, length-replicate) (omega arith) in
+    let z : t₂ ≡ ((s ++ 0x80 ∷ replicate k 0) ++ b) ++ drop 4 (replicate j 0) =
+    e₂ ∙ rw x (paste-next (s ++ 0x80 ∷ replicate k 0) b (replicate j 0) (r + suc k) 4 l hb) in
+    rw z (take-at ((s ++ 0x80 ∷ replicate k 0) ++ b) (drop 4 (replicate j 0)) (r + suc k + 4) (rw length-append (omega arith)))
+  where
+    more : (r n : ℕ) → r + suc n - r ≡ suc n
+    more r n = omega arith
+
+-- the blocks that end a message, as they are laid
+pub ending-law : (m t₁ t₂ : List ℕ) → length m ≤ 65536 → t₁ ≡ paste (replicate 128 0) 0 (drop (length m - length m % 64) m) (length m % 64)
+    → t₂ ≡ paste (set t₁ (length m % 64) 0x80) (64 * fips.endingBlocks (length m) - 4) (beBytes 4 (8 * length m)) 4
+    → take (64 * fips.endingBlocks (length m)) t₂ ≡ drop (64 * (length m / 64)) (fips.pad m)
+ending-law m t₁ t₂ h e₁ e₂ =
+    let o : length m - length m % 64 ≡ 64 * (length m / 64) = omega arith in
+    let a : 64 * fips.endingBlocks (length m) - 4 ≡ length m % 64 + suc (zeros (length m) + 4) = omega arith in
+    let b : 64 * fips.endingBlocks (length m) ≡ length m % 64 + suc (zeros (length m) + 4) + 4 = omega arith in
+    let s : length (drop (64 * (length m / 64)) m) ≡ length m % 64 = rw length-drop (omega arith) in
+    rw b (laid (drop (64 * (length m / 64)) m) (beBytes 4 (8 * length m)) t₁ t₂ (length m % 64) (zeros (length m) + 4) (123 - length m % 64 - zeros (length m))
+    s (length-beBytes 4 (8 * length m)) (omega arith) (rw o at e₁) (rw a at e₂))
+    ∙ sym (pad-drop m (64 * (length m / 64)) (omega arith) h)
+
+-- the whole blocks, and then those that end the message, are the padded message's
+pub hash-law : (m t : List ℕ) → take (64 * fips.endingBlocks (length m)) t ≡ drop (64 * (length m / 64)) (fips.pad m)
+    → fips.output (fips.chain t (fips.endingBlocks (length m)) (fips.chain m (length m / 64) fips.start)) ≡ fips.sha1 m
+unfolding fips.sha1
+hash-law m t e =
+    let n : length (fips.pad m) / 64 ≡ length m / 64 + fips.endingBlocks (length m) = omega (arith, length-pad m) in
+    let p : List ℕ = drop (64 * (length m / 64)) (fips.pad m) in
+    let l : length p ≤ 64 * fips.endingBlocks (length m) = rw (length-drop, length-pad) (omega arith) in
+    ap fips.output (
+    ap (fips.chain t (fips.endingBlocks (length m))) (chain-same (length m / 64) m (fips.pad m) fips.start (pad-take m (64 * (length m / 64)) (omega arith)))
+    ∙ chain-same (fips.endingBlocks (length m)) t p _ (e ∙ sym (take-all (64 * fips.endingBlocks (length m)) p l))
+    ∙ chain-add (length m / 64) (fips.endingBlocks (length m)) (fips.pad m) fips.start
+    ∙ ap (λ (k : ℕ). fips.chain (fips.pad m) k fips.start) (sym n)
+    )
+
+-- the five words' bytes, laid one after the other
+pub output-law : (s : State) (x₁ x₂ x₃ x₄ x₅ : List ℕ) → x₁ ≡ paste (replicate 20 0) 0 (beBytes 4 (s .a)) 4 → x₂ ≡ paste x₁ 4 (beBytes 4 (s .b)) 4
+    → x₃ ≡ paste x₂ 8 (beBytes 4 (s .c)) 4 → x₄ ≡ paste x₃ 12 (beBytes 4 (s .d)) 4 → x₅ ≡ paste x₄ 16 (beBytes 4 (s .e)) 4 → x₅ ≡ fips.output s
+unfolding fips.output
+output-law s x₁ x₂ x₃ x₄ x₅ e₁ e₂ e₃ e₄ e₅ =
+    let two : List ℕ = beBytes 4 (s .a) ++ beBytes 4 (s .b) in
+    let three : List ℕ = two ++ beBytes 4 (s .c) in
+    let four : List ℕ = three ++ beBytes 4 (s .d) in
+    let y₁ : x₁ ≡ beBytes 4 (s .a) ++ replicate 16 0 = fill-next [] (beBytes 4 (s .a)) (replicate 20 0) x₁ 0 4 16 0 refl (long (s .a)) refl e₁ in
+    let y₂ : x₂ ≡ two ++ replicate 12 0 = fill-next (beBytes 4 (s .a)) (beBytes 4 (s .b)) x₁ x₂ 4 4 12 0 (long (s .a)) (long (s .b)) y₁ e₂ in
+    let y₃ : x₃ ≡ three ++ replicate 8 0 = fill-next two (beBytes 4 (s .c)) x₂ x₃ 8 4 8 0 (simp (length-append, length-beBytes)) (long (s .c)) y₂ e₃ in
+    let y₄ : x₄ ≡ four ++ replicate 4 0 = fill-next three (beBytes 4 (s .d)) x₃ x₄ 12 4 4 0 (simp (length-append, length-beBytes)) (long (s .d)) y₃ e₄ in
+    fill-next four (beBytes 4 (s .e)) x₄ x₅ 16 4 0 0 (simp (length-append, length-beBytes)) (long (s .e)) y₄ e₅ ∙ append-nil (four ++ beBytes 4 (s .e))
+  where
+    long : (v : ℕ) → length (beBytes 4 v) ≡ 4
+    long v = length-beBytes 4 v

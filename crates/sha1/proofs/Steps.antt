@@ -1,0 +1,58 @@
+-- The rounds and the schedule grow by one step; a round's range decides its function and its word. Assumes nothing.
+use mathlib.Core.Path.{_≡_, refl}
+use mathlib.Core.List.{List}
+use Prim.Native.Nat.{ℕ, _+_, _-_, _≤_, _<_}
+use native.Mathlib.Numerals.{add-one}
+use native.Mathlib.Omega.{arith}
+use borrow.Author.Tests.{lt-ltb, le-ltb}
+use lib.ListN.{length, getD, take, set}
+use lib.Seq.{take-suc-set, getD-take}
+use Rattle.sha1.specs.Sha1 as fips
+use Rattle.sha1.specs.declared.State.{State}
+
+module _ (t p q r s : ℕ) where
+  pub first : t < 20 → fips.ranged t p q r s ≡ p
+  unfolding fips.ranged
+  first h = simp (lt-ltb t 20 h)
+
+  pub second : 20 ≤ t → t < 40 → fips.ranged t p q r s ≡ q
+  unfolding fips.ranged
+  second g h = simp (le-ltb t 20 g, lt-ltb t 40 h)
+
+  pub third : 40 ≤ t → t < 60 → fips.ranged t p q r s ≡ r
+  unfolding fips.ranged
+  third g h = simp (le-ltb t 20 (omega arith), le-ltb t 40 g, lt-ltb t 60 h)
+
+  pub last : 60 ≤ t → fips.ranged t p q r s ≡ s
+  unfolding fips.ranged
+  last g = simp (le-ltb t 20 (omega arith), le-ltb t 40 (omega arith), le-ltb t 60 g)
+
+pub rounds-none : (w : List ℕ) (s : State) → s ≡ fips.rounds w 0 s
+unfolding fips.rounds
+rounds-none w s = refl
+
+pub rounds-more : (w : List ℕ) (t : ℕ) (s : State) → fips.rounds w (t + 1) s ≡ fips.step t (getD w t 0) (fips.rounds w t s)
+unfolding fips.rounds
+rounds-more w t s = rw add-one
+
+-- the schedule's next word, stored where it belongs
+pub words-more : (m w : List ℕ) (t v : ℕ) → t < length w → take t w ≡ fips.words m t → v ≡ fips.word m t (take t w)
+    → take (t + 1) (set w t v) ≡ fips.words m (t + 1)
+unfolding fips.words fips.longer
+words-more m w t v h e f = rw (add-one, take-suc-set w t v h, f, e)
+
+-- below sixteen a word is the message's, past that the recurrence reads only words before it
+pub word-early : (m w : List ℕ) (t : ℕ) → t < 16 → getD m t 0 ≡ fips.word m t w
+unfolding fips.word
+word-early m w t h = simp (lt-ltb t 16 h)
+
+pub word-later : (m n w : List ℕ) (t : ℕ) → 16 ≤ t → fips.word m t w ≡ fips.word n t (take t w)
+unfolding fips.word
+word-later m n w t h =
+    simp (
+      le-ltb t 16 h,
+      getD-take t w (t - 3) 0 (omega arith),
+      getD-take t w (t - 8) 0 (omega arith),
+      getD-take t w (t - 14) 0 (omega arith),
+      getD-take t w (t - 16) 0 (omega arith),
+    )

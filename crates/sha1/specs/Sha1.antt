@@ -1,0 +1,134 @@
+-- SHA-1 as FIPS 180-4 defines it. A word is a number below 2 ^ 32, a message a list of bytes. Assumes nothing.
+use mathlib.Core.Bool.{cond}
+use mathlib.Core.List.{List, [], _∷_, _++_}
+use Prim.Native.Nat.{ℕ, zero, suc, _+_, _-_, _*_, _/_, _%_, _^_}
+use lib.Bits.{bitAnd, bitOr, bitXor}
+use lib.Dec.{ltb, eqb}
+use lib.ListN.{length, getD, replicate}
+use Rattle.octets.specs.Octets.{beAt, beBytes}
+use Rattle.answers.specs.Rules.{Rule, rule, firstOf}
+use Rattle.sha1.specs.declared.State.{State}
+use Rattle.sha1.specs.declared.Hashed.{Hashed}
+
+-- ---- operations on words
+
+-- x rotated left by n places (3.2, ROTL)
+unfoldable pub rotl : ℕ → ℕ → ℕ
+rotl n x = bitOr (x * 2 ^ n % 2 ^ 32) (x / 2 ^ (32 - n))
+
+-- the three functions (4.1.1)
+unfoldable pub ch : ℕ → ℕ → ℕ → ℕ
+ch x y z = bitXor (bitAnd x y) (bitAnd (2 ^ 32 - 1 - x) z)
+
+unfoldable pub parity : ℕ → ℕ → ℕ → ℕ
+parity x y z = bitXor (bitXor x y) z
+
+unfoldable pub maj : ℕ → ℕ → ℕ → ℕ
+maj x y z = bitXor (bitXor (bitAnd x y) (bitAnd x z)) (bitAnd y z)
+
+-- one of four, by the twenty rounds that t is in
+unfoldable pub ranged : ℕ → ℕ → ℕ → ℕ → ℕ → ℕ
+ranged t p q r s = cond (ltb t 20) p (cond (ltb t 40) q (cond (ltb t 60) r s))
+
+-- the function of round t (4.1.1) and its constant word (4.2.1)
+unfoldable pub mix : ℕ → ℕ → ℕ → ℕ → ℕ
+mix t x y z = ranged t (ch x y z) (parity x y z) (maj x y z) (parity x y z)
+
+unfoldable pub constant : ℕ → ℕ
+constant t = ranged t 0x5a827999 0x6ed9eba1 0x8f1bbcdc 0xca62c1d6
+
+-- ---- the message schedule (6.1.2, step 1)
+
+-- word t of the schedule of the sixteen words m, from the words w before it
+unfoldable pub word : List ℕ → ℕ → List ℕ → ℕ
+word m t w =
+    cond (ltb t 16) (getD m t 0)
+    (rotl 1 (bitXor (bitXor (bitXor (getD w (t - 3) 0) (getD w (t - 8) 0)) (getD w (t - 14) 0)) (getD w (t - 16) 0)))
+
+-- the words w before t, and word t
+unfoldable pub longer : List ℕ → ℕ → List ℕ → List ℕ
+longer m t w = w ++ (word m t w ∷ [])
+
+-- the schedule's first t words
+unfoldable pub words : List ℕ → ℕ → List ℕ
+words m zero = []
+words m (suc t) = longer m t (words m t)
+
+-- ---- the rounds (6.1.2, steps 2 to 4)
+
+-- round t with the schedule's word v
+unfoldable pub step : ℕ → ℕ → State → State
+step t v s =
+    record {
+      a = (rotl 5 (s .a) + mix t (s .b) (s .c) (s .d) + s .e + constant t + v) % 2 ^ 32;
+      b = s .a;
+      c = rotl 30 (s .b);
+      d = s .c;
+      e = s .d;
+    }
+
+-- the first t rounds over the schedule w
+unfoldable pub rounds : List ℕ → ℕ → State → State
+rounds w zero s = s
+rounds w (suc t) s = step t (getD w t 0) (rounds w t s)
+
+-- the sums of two states, word by word
+unfoldable pub sums : State → State → State
+sums s r =
+    record {
+      a = (s .a + r .a) % 2 ^ 32;
+      b = (s .b + r .b) % 2 ^ 32;
+      c = (s .c + r .c) % 2 ^ 32;
+      d = (s .d + r .d) % 2 ^ 32;
+      e = (s .e + r .e) % 2 ^ 32;
+    }
+
+-- the compression of a block of sixteen words
+unfoldable pub compress : State → List ℕ → State
+compress s m = sums s (rounds (words m 80) 80 s)
+
+-- ---- a whole message
+
+-- the starting words (5.3.1)
+unfoldable pub start : State
+start = record { a = 0x67452301; b = 0xefcdab89; c = 0x98badcfe; d = 0x10325476; e = 0xc3d2e1f0 }
+
+-- the first n words, high byte first, of the block at place o (5.2.1)
+unfoldable pub block : List ℕ → ℕ → ℕ → List ℕ
+block p o zero = []
+block p o (suc n) = block p o n ++ (beAt 4 (o + 4 * n) p ∷ [])
+
+-- the first n blocks of p, one after the other (6.1.2)
+unfoldable pub chain : List ℕ → ℕ → State → State
+chain p zero s = s
+chain p (suc n) s = compress (chain p n s) (block p (64 * n) 16)
+
+-- the one bit, zeros to eight bytes before a block's end, and the length in bits (5.1.1)
+unfoldable pub pad : List ℕ → List ℕ
+pad m = m ++ 0x80 ∷ replicate ((119 - length m % 64) % 64) 0 ++ beBytes 8 (8 * length m)
+
+-- how many blocks of a padded message of n bytes come after the message's own whole ones
+abbrev pub endingBlocks : ℕ → ℕ
+endingBlocks n = (n + 72) / 64 - n / 64
+
+-- the five words, high byte first
+unfoldable pub output : State → List ℕ
+output s = beBytes 4 (s .a) ++ beBytes 4 (s .b) ++ beBytes 4 (s .c) ++ beBytes 4 (s .d) ++ beBytes 4 (s .e)
+
+-- the hash of a message (6.1)
+unfoldable pub sha1 : List ℕ → List ℕ
+sha1 m = output (chain (pad m) (length (pad m) / 64) start)
+
+-- ---- the entry
+
+-- 01's reply 18, a house limit
+unfoldable pub hashRules : List ℕ → List Rule
+hashRules m = rule 18 (ltb 65536 (length m)) ∷ []
+
+-- what `digest` gives for a message: the hash, or twenty zeros where it is refused
+unfoldable pub hashed : List ℕ → Hashed
+hashed m =
+    record {
+      answer = firstOf (hashRules m);
+      bytes = cond (eqb (firstOf (hashRules m)) 0) (sha1 m) (replicate 20 0);
+    }

@@ -1,0 +1,86 @@
+// SHA-1, as FIPS 180-4 defines it. The locked documents of 01 are made with it; it is broken as a hash for signatures, and
+// nothing new should be built on it.
+//
+//     let h = sha1::digest(message);
+//     if h.answer == answers::DONE { .. h.bytes .. }
+//
+// `digest` hashes whole messages. A caller that makes its blocks itself, as the key derivation does, compresses sixteen words
+// at a time from `start`.
+ghost use mathlib.Core.Path.{_≡_};
+ghost use Prim.Native.Nat.{_≤_};
+ghost use lib.ListN.{length};
+ghost use Rattle.sha1.specs.Sha1 as fips;
+
+mod blocks;
+mod padding;
+mod rounds;
+mod schedule;
+
+// The five words that go from block to block (FIPS 180-4 6.1).
+pub struct State {
+    pub a: u32,
+    pub b: u32,
+    pub c: u32,
+    pub d: u32,
+    pub e: u32,
+}
+
+// An answer, and the hash where it is 0: zeros where it is not.
+pub struct Hashed {
+    pub answer: u16,
+    pub bytes: [u8; 20],
+}
+
+// The starting words (FIPS 180-4 5.3.1).
+const START: [u32; 5] = [0x67452301, 0xefcdab89, 0x98badcfe, 0x10325476, 0xc3d2e1f0];
+
+// The state before the first block.
+pub fn start() -> State
+    ensures { λ r. ⌜ r ≡ fips.start ⌝ }
+{
+    State {
+        a: START[0],
+        b: START[1],
+        c: START[2],
+        d: START[3],
+        e: START[4],
+    }
+}
+
+// One block of sixteen words.
+pub fn compress(s: State, m: [u32; 16]) -> State
+    ensures { λ r. ⌜ r ≡ fips.compress s m ⌝ }
+{
+    let w = schedule::schedule(m);
+    let r = rounds::eighty(&w, s);
+    rounds::sums(s, r)
+}
+
+// The hash of a message within the limit: its whole blocks, then those that end it.
+fn hash(m: &[u8]) -> [u8; 20]
+    requires { ⌜ length (now m) ≤ 65536 ⌝ }
+    ensures { λ r. ⌜ r ≡ fips.sha1 (now (m .entry)) ⌝ }
+{
+    let n = m.len();
+    let tail = padding::ending(m);
+    let whole = blocks::chain(m, n / 64, start());
+    blocks::output(blocks::chain(&tail, padding::ending_blocks(n), whole))
+}
+
+// The hash of a message, or 18 with zeros for one longer than 65,536 bytes.
+pub fn digest(message: &[u8]) -> Hashed
+    ensures { λ r. ⌜ r ≡ fips.hashed (now (message .entry)) ⌝ }
+{
+    if 65536 < message.len() {
+        let bytes = [0u8; 20];
+        return Hashed {
+            answer: answers::MESSAGE_LONG,
+            bytes,
+        };
+    }
+    let bytes = hash(message);
+    Hashed {
+        answer: answers::DONE,
+        bytes,
+    }
+}

@@ -1,0 +1,119 @@
+// The eighty rounds (FIPS 180-4 4.1.1, 4.2.1, 6.1.2), in four spans of twenty: within a span the range of t is known, so that
+// the compiler drops the `match` and unrolls the rounds.
+ghost use mathlib.Core.Path.{_≡_};
+ghost use Prim.Native.Nat.{_+_, _%_, _^_, _<_, _≤_};
+ghost use Rattle.sha1.specs.Sha1 as fips;
+ghost use Rattle.sha1.specs.declared.State.{State};
+use crate::State;
+
+// The words of the four ranges (4.2.1).
+const ROUND: [u32; 4] = [0x5a827999, 0x6ed9eba1, 0x8f1bbcdc, 0xca62c1d6];
+
+// x rotated left by n places (3.2).
+pub fn rotl(n: u32, x: u32) -> u32
+    requires { ⌜ (0 < n) × (n < 32) ⌝ }
+    ensures { λ r. ⌜ r ≡ fips.rotl n x ⌝ }
+{
+    (x << n) | (x >> (32 - n))
+}
+
+fn ch(x: u32, y: u32, z: u32) -> u32
+    ensures { λ r. ⌜ r ≡ fips.ch x y z ⌝ }
+{
+    (x & y) ^ (!x & z)
+}
+
+fn parity(x: u32, y: u32, z: u32) -> u32
+    ensures { λ r. ⌜ r ≡ fips.parity x y z ⌝ }
+{
+    x ^ y ^ z
+}
+
+fn maj(x: u32, y: u32, z: u32) -> u32
+    ensures { λ r. ⌜ r ≡ fips.maj x y z ⌝ }
+{
+    (x & y) ^ (x & z) ^ (y & z)
+}
+
+// The function of round t.
+fn mix(t: usize, x: u32, y: u32, z: u32) -> u32
+    ensures { λ r. ⌜ r ≡ fips.mix t x y z ⌝ }
+{
+    match t {
+        0..=19 => ch(x, y, z),
+        20..=39 => parity(x, y, z),
+        40..=59 => maj(x, y, z),
+        _ => parity(x, y, z),
+    }
+}
+
+// The word of round t.
+fn constant(t: usize) -> u32
+    ensures { λ r. ⌜ r ≡ fips.constant t ⌝ }
+{
+    match t {
+        0..=19 => ROUND[0],
+        20..=39 => ROUND[1],
+        40..=59 => ROUND[2],
+        _ => ROUND[3],
+    }
+}
+
+// The sum modulo 2 ^ 32.
+fn add(x: u32, y: u32) -> u32
+    ensures { λ r. ⌜ r ≡ (x + y) % 2 ^ 32 ⌝ }
+{
+    std::num::wrapping_add_u32(x, y)
+}
+
+// Round t with the schedule's word v.
+fn step(t: usize, v: u32, s: State) -> State
+    ensures { λ r. ⌜ r ≡ fips.step t v s ⌝ }
+{
+    let mixed = add(rotl(5, s.a), mix(t, s.b, s.c, s.d));
+    let a = add(add(add(mixed, s.e), constant(t)), v);
+    State {
+        a,
+        b: s.a,
+        c: rotl(30, s.b),
+        d: s.c,
+        e: s.d,
+    }
+}
+
+// The rounds from `from` up to `to`, after those before.
+fn span(w: &[u32; 80], from: usize, to: usize, s: State) -> State
+    requires { ⌜ (from ≤ to) × (to ≤ 80) ⌝ }
+    ensures { λ r. ⌜ ((x : State) → s ≡ fips.rounds (now (w .entry)) from x → r ≡ fips.rounds (now (w .entry)) to x) ⌝ }
+{
+    let mut r = s;
+    let mut t = from;
+    while t < to {
+        r = step(t, w[t], r);
+        t += 1;
+    }
+    r
+}
+
+// All the rounds.
+pub fn eighty(w: &[u32; 80], s: State) -> State
+    ensures { λ r. ⌜ r ≡ fips.rounds (now (w .entry)) 80 s ⌝ }
+{
+    let first = span(w, 0, 20, s);
+    let second = span(w, 20, 40, first);
+    let third = span(w, 40, 60, second);
+    span(w, 60, 80, third)
+}
+
+// Two states word by word.
+pub fn sums(s: State, r: State) -> State
+    ensures { λ x. ⌜ x ≡ fips.sums s r ⌝ }
+{
+    State {
+        a: add(s.a, r.a),
+        b: add(s.b, r.b),
+        c: add(s.c, r.c),
+        d: add(s.d, r.d),
+        e: add(s.e, r.e),
+    }
+}
