@@ -1,5 +1,7 @@
 // The numbered replies of 01 by name. What an entry answers is its first broken rule's number, or DONE where every rule holds:
 // specs/Rules.antt has the ordered list, proofs/Laws.antt what follows from an answer.
+ghost use mathlib.Core.Path.{_≡_};
+ghost use mathlib.Core.Bool.{cond};
 
 // No rule is broken.
 pub const DONE: u16 = 0;
@@ -39,3 +41,13 @@ pub const ROOM: u16 = 16;
 pub const FILES: u16 = 17;
 // A message to hash is longer than 65,536 bytes.
 pub const MESSAGE_LONG: u16 = 18;
+
+// The number of a rule that is broken, else what the rules after it give.
+pub fn first(broken: bool, number: u16, rest: u16) -> u16
+    ensures { λ r. ⌜ r ≡ cond broken number rest ⌝ }
+{
+    if broken {
+        return number;
+    }
+    rest
+}

@@ -6,15 +6,11 @@ use Prim.Native.Nat.{ℕ, zero, suc, _+_, _-_, _*_, _/_, _%_, _^_, _≤_, _<_}
 use native.Mathlib.Nat.{pow-suc, pow-succ', one-le-pow, mul-assoc, suc-add, zero-add, div-div-eq-div-mul, div-eq-of-lt}
 use native.Mathlib.Omega.{arith}
 use lib.Arith.{mod-mul}
-use lib.ListN.{replicate, length, getD, take, drop, length-drop, length-reverse}
-use lib.Seq.{paste, take-add, take-nil, take-at, drop-drop, drop-append-add, length-take-le}
+use lib.ListN.{replicate, length, getD, take, drop, length-reverse}
+use lib.Seq.{paste, take-add, take-nil, take-at, drop-drop, drop-append-add}
 use Rattle.octets.specs.Octets.{Bytes, le, leBytes, leAt, be, beBytes, beAt}
 use Rattle.octets.proofs.Below.{tail-below, take-below, drop-below, reverse-below}
-use Rattle.octets.proofs.Parts.{part-part, part-paste, reverse-replicate}
-
--- a part within a list: its length, and that it is bytes
-part-long : (n at : ℕ) (s : List ℕ) → at + n ≤ length s → length (take n (drop at s)) ≡ n
-part-long n at s h = length-take-le n (drop at s) (simp length-drop (omega arith))
+use Rattle.octets.proofs.Parts.{length-part, part-part, part-paste, reverse-replicate}
 
 part-bytes : (n at : ℕ) (s : List ℕ) → Bytes s → Bytes (take n (drop at s))
 part-bytes n at s b = take-below n (drop at s) (drop-below at s b)
@@ -36,12 +32,12 @@ le-lt (x ∷ s) b = rw pow-succ' (omega (arith, le-lt s (tail-below b), b .at 0)
 
 pub leAt-lt : (n o : ℕ) (s : List ℕ) → Bytes s → o + n ≤ length s → leAt n o s < 256 ^ n
 unfolding leAt
-leAt-lt n o s b h = rw (part-long n o s h) at (le-lt (take n (drop o s)) (part-bytes n o s b))
+leAt-lt n o s b h = rw (length-part n o s h) at (le-lt (take n (drop o s)) (part-bytes n o s b))
 
 pub beAt-lt : (n o : ℕ) (s : List ℕ) → Bytes s → o + n ≤ length s → beAt n o s < 256 ^ n
 unfolding beAt be
 beAt-lt n o s b h =
-    rw (length-reverse, part-long n o s h) at (le-lt (reverse (take n (drop o s))) (reverse-below (take n (drop o s)) (part-bytes n o s b)))
+    rw (length-reverse, length-part n o s h) at (le-lt (reverse (take n (drop o s))) (reverse-below (take n (drop o s)) (part-bytes n o s b)))
 
 -- ---- written and read back
 
@@ -144,7 +140,7 @@ leAt-add n m o s = rw (le-take, drop-drop)
 pub beAt-add : (n m o : ℕ) (s : List ℕ) → o + n + m ≤ length s → beAt (n + m) o s ≡ beAt m (o + n) s + 256 ^ m * beAt n o s
 unfolding beAt
 beAt-add n m o s h =
-    rw (take-add, drop-drop, be-append, part-long m (o + n) s h)
+    rw (take-add, drop-drop, be-append, length-part m (o + n) s h)
 
 pub leAt-one : (o : ℕ) (s : List ℕ) → leAt 1 o s ≡ getD s o 0
 unfolding leAt le
@@ -175,13 +171,13 @@ beAt-paste n v at d hv hd = ap be (part-paste d (beBytes n v) at n (length-beByt
 pub leBytes-leAt : (n at : ℕ) (s : List ℕ) → Bytes s → at + n ≤ length s → leBytes n (leAt n at s) ≡ take n (drop at s)
 unfolding leAt
 leBytes-leAt n at s b h =
-    subst (λ (k : ℕ). leBytes k (le (take n (drop at s))) ≡ take n (drop at s)) (part-long n at s h)
+    subst (λ (k : ℕ). leBytes k (le (take n (drop at s))) ≡ take n (drop at s)) (length-part n at s h)
     (leBytes-le (take n (drop at s)) (part-bytes n at s b))
 
 pub beBytes-beAt : (n at : ℕ) (s : List ℕ) → Bytes s → at + n ≤ length s → beBytes n (beAt n at s) ≡ take n (drop at s)
 unfolding beAt
 beBytes-beAt n at s b h =
-    subst (λ (k : ℕ). beBytes k (be (take n (drop at s))) ≡ take n (drop at s)) (part-long n at s h)
+    subst (λ (k : ℕ). beBytes k (be (take n (drop at s))) ≡ take n (drop at s)) (length-part n at s h)
     (beBytes-be (take n (drop at s)) (part-bytes n at s b))
 
 -- a number in a part is the number at its place in the whole

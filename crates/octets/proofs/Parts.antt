@@ -5,7 +5,7 @@ use Prim.Native.Nat.{ℕ, zero, suc, _+_, _-_, _≤_, _<_}
 use native.Mathlib.Nat.{add-assoc, zero-add, suc-add, sub-zero, zero-sub, suc-sub-suc}
 use native.Mathlib.Numerals.{add-one}
 use native.Mathlib.Omega.{arith}
-use lib.ListN.{length, getD, take, drop, set, replicate, length-append, drop-of-length-le, take-append-drop, replicate-append-replicate}
+use lib.ListN.{length, getD, take, drop, set, replicate, length-append, length-drop, drop-of-length-le, take-append-drop, replicate-append-replicate}
 use lib.Seq.{paste, paste-suc, take-all, take-nil, drop-nil, take-take, take-add, take-at, drop-at, drop-drop, take-paste, drop-paste, drop-append-add, length-take-le}
 
 module _ {A : Type 0} where
@@ -14,6 +14,9 @@ module _ {A : Type 0} where
   drop-take zero n s = rw zero-add
   drop-take (suc o) n [] = rw (take-nil (suc o + n), drop-nil (suc o), take-nil n)
   drop-take (suc o) n (x ∷ s) = rw suc-add (drop-take o n s)
+
+  pub length-part : (n o : ℕ) (s : List A) → o + n ≤ length s → length (take n (drop o s)) ≡ n
+  length-part n o s h = length-take-le n (drop o s) (simp length-drop (omega arith))
 
   -- a part of a part
   pub part-part : (n o m a : ℕ) (s : List A) → o + n ≤ m → take n (drop o (take m (drop a s))) ≡ take n (drop (a + o) s)
@@ -62,6 +65,12 @@ module _ {A : Type 0} where
   -- a list laid up to the end of another, or past it
   pub paste-end : (d s : List A) (at n : ℕ) → length s ≡ n → length d ≤ at + n → paste d at s n ≡ take at d ++ s
   paste-end d s at n hs hd = rw (take-all n s (omega arith), drop-of-length-le d hd) (append-nil (take at d ++ s))
+
+  -- a list that is overwritten whole
+  pub paste-whole : (d s : List A) (n : ℕ) → length d ≡ n → paste d 0 s n ≡ take n s
+  paste-whole d s n h =
+      let past : length d ≤ 0 + n = omega arith in
+      rw (drop-of-length-le d past) (append-nil (take n s))
 
   -- what was laid is read back, and what was read is laid back
   pub part-paste : (d s : List A) (at n : ℕ) → length s ≡ n → at + n ≤ length d → take n (drop at (paste d at s n)) ≡ s

@@ -1,0 +1,130 @@
+-- EncryptionInfo of Standard encryption (01, "EncryptionInfo, byte for byte"; 004 2.3.2, 2.3.3 and 2.3.4.5, 000 section 2): its
+-- fields at their places, the rules 1 to 10, and what a parse gives. Assumes nothing.
+use mathlib.Core.Bool.{Bool, cond, not, _||_}
+use mathlib.Core.List.{List, [], _∷_}
+use Prim.Native.Nat.{ℕ, _+_, _-_, _/_, _%_}
+use lib.Dec.{ltb, eqb}
+use lib.ListN.{length, take, drop, replicate}
+use Rattle.octets.specs.Octets.{leAt}
+use Rattle.answers.specs.Rules.{Rule, rule, firstOf}
+use Rattle.descriptor.specs.declared.Suite.{Suite}
+use Rattle.descriptor.specs.declared.Descriptor.{Descriptor}
+use Rattle.descriptor.specs.declared.Parsed.{Parsed}
+
+-- ---- the fields; bytes past the end count as 0
+
+-- EncryptionVersionInfo (004 2.3.4.5)
+unfoldable pub major : List ℕ → ℕ
+major s = leAt 2 0 s
+
+unfoldable pub minor : List ℕ → ℕ
+minor s = leAt 2 2 s
+
+-- the size of EncryptionHeader, which begins at 12
+unfoldable pub headerSize : List ℕ → ℕ
+headerSize s = leAt 4 8 s
+
+-- EncryptionHeader (004 2.3.2)
+unfoldable pub sizeExtra : List ℕ → ℕ
+sizeExtra s = leAt 4 16 s
+
+unfoldable pub algId : List ℕ → ℕ
+algId s = leAt 4 20 s
+
+unfoldable pub algIdHash : List ℕ → ℕ
+algIdHash s = leAt 4 24 s
+
+unfoldable pub keySize : List ℕ → ℕ
+keySize s = leAt 4 28 s
+
+-- EncryptionVerifier (004 2.3.3), right after EncryptionHeader
+unfoldable pub saltSize : List ℕ → ℕ
+saltSize s = leAt 4 (12 + headerSize s) s
+
+unfoldable pub saltOf : List ℕ → List ℕ
+saltOf s = take 16 (drop (16 + headerSize s) s)
+
+unfoldable pub encryptedVerifier : List ℕ → List ℕ
+encryptedVerifier s = take 16 (drop (32 + headerSize s) s)
+
+unfoldable pub verifierHashSize : List ℕ → ℕ
+verifierHashSize s = leAt 4 (48 + headerSize s) s
+
+unfoldable pub encryptedVerifierHash : List ℕ → List ℕ
+encryptedVerifierHash s = take 32 (drop (52 + headerSize s) s)
+
+-- ---- the algorithms (01's table of AlgID, KeySize and rounds; 000 3.1)
+
+abbrev pub suite : ℕ → ℕ → ℕ → Suite
+suite answer bits rounds = record { answer = answer; bits = record { 0 = bits }; rounds = rounds }
+
+-- key size in bits and rounds for an AlgID, or 6
+unfoldable pub suiteOf : ℕ → Suite
+suiteOf a = cond (eqb a 0x660e) (suite 0 128 10) (cond (eqb a 0x660f) (suite 0 192 12) (cond (eqb a 0x6610) (suite 0 256 14) (suite 6 0 0)))
+
+-- ---- what each rule tests (01, "The numbered replies")
+
+unfoldable pub badVersion : ℕ → ℕ → Bool
+badVersion major minor = not (eqb minor 2) || (ltb major 2 || ltb 4 major)
+
+unfoldable pub badHeaderSize : ℕ → Bool
+badHeaderSize h = ltb h 32 || ltb 4096 h
+
+-- SizeExtra exceeds what is left of the header, or leaves the name an odd number of bytes
+unfoldable pub badName : ℕ → ℕ → Bool
+badName h x = ltb h (32 + x) || not (eqb ((h - 32 - x) % 2) 0)
+
+-- the rules 1 to 10, in order
+unfoldable pub infoRules : List ℕ → List Rule
+infoRules s =
+    rule 1 (ltb (length s) 12)
+    ∷ rule 2 (badVersion (major s) (minor s))
+    ∷ rule 3 (badHeaderSize (headerSize s))
+    ∷ rule 4 (not (eqb (length s) (headerSize s + 84)))
+    ∷ rule 5 (badName (headerSize s) (sizeExtra s))
+    ∷ rule 6 (not (eqb (suiteOf (algId s) .answer) 0))
+    ∷ rule 7 (not (eqb (algIdHash s) 0x8004))
+    ∷ rule 8 (not (eqb (keySize s) (suiteOf (algId s) .bits .0)))
+    ∷ rule 9 (not (eqb (saltSize s) 16))
+    ∷ rule 10 (not (eqb (verifierHashSize s) 20))
+    ∷ []
+
+-- ---- the parse
+
+-- what a stream that breaks no rule says; KeySize counts bits in the file and bytes from here on
+unfoldable pub described : List ℕ → Descriptor
+described s =
+    record {
+      major = major s;
+      minor = minor s;
+      alg = algId s;
+      key = record { 0 = keySize s / 8 };
+      place = 44;
+      name = headerSize s - 32 - sizeExtra s;
+      salt = saltOf s;
+      verifier = encryptedVerifier s;
+      hash = encryptedVerifierHash s;
+    }
+
+-- zeros in every field, the place too
+unfoldable pub zeroed : Descriptor
+zeroed =
+    record {
+      major = 0;
+      minor = 0;
+      alg = 0;
+      key = record { 0 = 0 };
+      place = 0;
+      name = 0;
+      salt = replicate 16 0;
+      verifier = replicate 16 0;
+      hash = replicate 32 0;
+    }
+
+-- what `parse` gives for every stream
+unfoldable pub parsed : List ℕ → Parsed
+parsed s =
+    record {
+      answer = firstOf (infoRules s);
+      fields = cond (eqb (firstOf (infoRules s)) 0) (described s) zeroed;
+    }
