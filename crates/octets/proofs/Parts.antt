@@ -50,6 +50,13 @@ module _ {A : Type 0} where
       sym (drop-drop m (at + n) (paste d at x n)) ∙ ap (drop m) (drop-paste d at x n (omega arith) (omega arith)) ∙ rw (drop-drop, add-assoc) in
       rw (take-paste d at x n (omega arith) (omega arith), past, xs, ys, all) (simp append-assoc)
 
+  -- the same, step by step
+  pub paste-two : (x y z : List A) (n m at : ℕ) (d e f : List A) → length x ≡ n → length y ≡ m → x ++ y ≡ z → at + (n + m) ≤ length d
+      → e ≡ paste d at x n → f ≡ paste e (at + n) y m → f ≡ paste d at z (n + m)
+  paste-two x y z n m at d e f hx hy q h p r =
+      r ∙ ap (λ (l : List A). paste l (at + n) y m) p ∙ paste-paste d x y at n m hx hy (omega arith)
+      ∙ ap (λ (l : List A). paste d at l (n + m)) q
+
   -- a whole list laid right after another
   pub paste-next : (p s d : List A) (at n : ℕ) → length p ≡ at → length s ≡ n → paste (p ++ d) at s n ≡ (p ++ s) ++ drop n d
   paste-next p s d at n hp hs =

@@ -93,7 +93,7 @@ hash-law m t e =
 -- the five words' bytes, laid one after the other
 pub output-law : (s : State) (x₁ x₂ x₃ x₄ x₅ : List ℕ) → x₁ ≡ paste (replicate 20 0) 0 (beBytes 4 (s .a)) 4 → x₂ ≡ paste x₁ 4 (beBytes 4 (s .b)) 4
     → x₃ ≡ paste x₂ 8 (beBytes 4 (s .c)) 4 → x₄ ≡ paste x₃ 12 (beBytes 4 (s .d)) 4 → x₅ ≡ paste x₄ 16 (beBytes 4 (s .e)) 4 → x₅ ≡ fips.output s
-unfolding fips.output
+unfolding fips.output fips.wordBytes
 output-law s x₁ x₂ x₃ x₄ x₅ e₁ e₂ e₃ e₄ e₅ =
     let two : List ℕ = beBytes 4 (s .a) ++ beBytes 4 (s .b) in
     let three : List ℕ = two ++ beBytes 4 (s .c) in
@@ -102,7 +102,7 @@ output-law s x₁ x₂ x₃ x₄ x₅ e₁ e₂ e₃ e₄ e₅ =
     let y₂ : x₂ ≡ two ++ replicate 12 0 = fill-next (beBytes 4 (s .a)) (beBytes 4 (s .b)) x₁ x₂ 4 4 12 0 (long (s .a)) (long (s .b)) y₁ e₂ in
     let y₃ : x₃ ≡ three ++ replicate 8 0 = fill-next two (beBytes 4 (s .c)) x₂ x₃ 8 4 8 0 (simp (length-append, length-beBytes)) (long (s .c)) y₂ e₃ in
     let y₄ : x₄ ≡ four ++ replicate 4 0 = fill-next three (beBytes 4 (s .d)) x₃ x₄ 12 4 4 0 (simp (length-append, length-beBytes)) (long (s .d)) y₃ e₄ in
-    fill-next four (beBytes 4 (s .e)) x₄ x₅ 16 4 0 0 (simp (length-append, length-beBytes)) (long (s .e)) y₄ e₅ ∙ append-nil (four ++ beBytes 4 (s .e))
+    fill-next four (beBytes 4 (s .e)) x₄ x₅ 16 4 0 0 (simp (length-append, length-beBytes)) (long (s .e)) y₄ e₅ ∙ (simp (append-nil, append-assoc))
   where
     long : (v : ℕ) → length (beBytes 4 v) ≡ 4
     long v = length-beBytes 4 v

@@ -11,6 +11,7 @@ use Rattle.octets.proofs.Numbers.{length-beBytes, beAt-here, beAt-past}
 use Rattle.octets.proofs.Below.{tail-below, cons-below, append-below, replicate-below, nil-below}
 use Rattle.sha1.specs.Sha1 as fips
 use Rattle.sha1.proofs.Padded.{length-pad, pad-drop}
+use Rattle.sha1.proofs.Laws.{length-wordBytes}
 
 -- one block
 pub one-block : (m : List ℕ) → length m ≤ 55 → fips.sha1 m ≡ fips.output (fips.compress fips.start (fips.block (fips.pad m) 0 16))
@@ -25,43 +26,33 @@ one-block m h =
 abbrev pub Words : List ℕ → Type 0
 Words ws = Below (2 ^ 32) ws
 
--- the words' bytes, high byte first
-unfoldable pub wordBytes : List ℕ → List ℕ
-wordBytes [] = []
-wordBytes (w ∷ ws) = beBytes 4 w ++ wordBytes ws
-
-pub length-wordBytes : (ws : List ℕ) → length (wordBytes ws) ≡ 4 * length ws
-unfolding wordBytes
-length-wordBytes [] = refl
-length-wordBytes (w ∷ ws) = simp (length-append, length-beBytes) (omega (arith, length-wordBytes ws))
-
-wordBytes-append : (ws us : List ℕ) → wordBytes (ws ++ us) ≡ wordBytes ws ++ wordBytes us
-unfolding wordBytes
+pub wordBytes-append : (ws us : List ℕ) → fips.wordBytes (ws ++ us) ≡ fips.wordBytes ws ++ fips.wordBytes us
+unfolding fips.wordBytes
 wordBytes-append [] us = refl
-wordBytes-append (w ∷ ws) us = ap (λ (l : List ℕ). beBytes 4 w ++ l) (wordBytes-append ws us) ∙ sym (append-assoc (beBytes 4 w) (wordBytes ws) (wordBytes us))
+wordBytes-append (w ∷ ws) us = ap (λ (l : List ℕ). beBytes 4 w ++ l) (wordBytes-append ws us) ∙ sym (append-assoc (beBytes 4 w) (fips.wordBytes ws) (fips.wordBytes us))
 
-single : (w : ℕ) → wordBytes (w ∷ []) ≡ beBytes 4 w
-unfolding wordBytes
+single : (w : ℕ) → fips.wordBytes (w ∷ []) ≡ beBytes 4 w
+unfolding fips.wordBytes
 single w = append-nil (beBytes 4 w)
 
-wordBytes-zeros : (n : ℕ) → wordBytes (replicate n 0) ≡ replicate (4 * n) 0
-unfolding wordBytes beBytes leBytes
+wordBytes-zeros : (n : ℕ) → fips.wordBytes (replicate n 0) ≡ replicate (4 * n) 0
+unfolding fips.wordBytes beBytes leBytes
 wordBytes-zeros zero = refl
 wordBytes-zeros (suc n) =
     let e : 4 * suc n ≡ 4 + 4 * n = omega arith in
     rw e (ap (λ (l : List ℕ). 0 ∷ 0 ∷ 0 ∷ 0 ∷ l) (wordBytes-zeros n) ∙ replicate-append-replicate {A = ℕ} 4 (4 * n) 0)
 
 -- a word is read where its bytes stand
-word-at : (n : ℕ) (ws : List ℕ) → Words ws → n < length ws → beAt 4 (4 * n) (wordBytes ws) ≡ getD ws n 0
-unfolding wordBytes
+word-at : (n : ℕ) (ws : List ℕ) → Words ws → n < length ws → beAt 4 (4 * n) (fips.wordBytes ws) ≡ getD ws n 0
+unfolding fips.wordBytes
 word-at n [] b h = absurd (omega arith)
-word-at zero (w ∷ ws) b h = beAt-here 4 w (wordBytes ws) (b .at 0)
+word-at zero (w ∷ ws) b h = beAt-here 4 w (fips.wordBytes ws) (b .at 0)
 word-at (suc n) (w ∷ ws) b h =
     let e : 4 * suc n ≡ length (beBytes 4 w) + 4 * n = omega (arith, length-beBytes 4 w) in
-    rw e (beAt-past 4 (4 * n) (beBytes 4 w) (wordBytes ws) ∙ word-at n ws (tail-below b) (omega arith))
+    rw e (beAt-past 4 (4 * n) (beBytes 4 w) (fips.wordBytes ws) ∙ word-at n ws (tail-below b) (omega arith))
 
 -- so a block of words is those words
-block-words : (n : ℕ) (ws : List ℕ) → Words ws → n ≤ length ws → fips.block (wordBytes ws) 0 n ≡ take n ws
+block-words : (n : ℕ) (ws : List ℕ) → Words ws → n ≤ length ws → fips.block (fips.wordBytes ws) 0 n ≡ take n ws
 unfolding fips.block
 block-words zero ws b h = refl
 block-words (suc n) ws b h =
@@ -73,20 +64,20 @@ unfoldable pub shortBlock : List ℕ → List ℕ
 shortBlock ws = ws ++ 0x80000000 ∷ replicate (14 - length ws) 0 ++ (32 * length ws ∷ [])
 
 -- the one bit's word, and zeros after it
-bit-word : (n : ℕ) → wordBytes (0x80000000 ∷ replicate n 0) ≡ 0x80 ∷ replicate (3 + 4 * n) 0
-unfolding wordBytes beBytes leBytes
+bit-word : (n : ℕ) → fips.wordBytes (0x80000000 ∷ replicate n 0) ≡ 0x80 ∷ replicate (3 + 4 * n) 0
+unfolding fips.wordBytes beBytes leBytes
 bit-word n = ap (λ (l : List ℕ). 0x80 ∷ 0 ∷ 0 ∷ 0 ∷ l) (wordBytes-zeros n) ∙ ap (_∷_ 0x80) (replicate-append-replicate {A = ℕ} 3 (4 * n) 0)
 
-short-pad : (ws : List ℕ) → length ws ≤ 13 → fips.pad (wordBytes ws) ≡ wordBytes (shortBlock ws)
+short-pad : (ws : List ℕ) → length ws ≤ 13 → fips.pad (fips.wordBytes ws) ≡ fips.wordBytes (shortBlock ws)
 unfolding shortBlock
 short-pad ws h =
     let k : ℕ = length ws in
-    let n : length (wordBytes ws) ≡ 4 * k = length-wordBytes ws in
+    let n : length (fips.wordBytes ws) ≡ 4 * k = length-wordBytes ws in
     let z : (119 - 4 * k % 64) % 64 + 4 ≡ 3 + 4 * (14 - k) = omega arith in
     let v : 8 * (4 * k) ≡ 32 * k = omega arith in
-    pad-drop (wordBytes ws) 0 (omega arith) (omega arith)
+    pad-drop (fips.wordBytes ws) 0 (omega arith) (omega arith)
     ∙ rw (n, z, v, ← bit-word (14 - k), ← wordBytes-append ws (0x80000000 ∷ replicate (14 - k) 0))
-    (sym (wordBytes-append (ws ++ 0x80000000 ∷ replicate (14 - k) 0) (32 * k ∷ []) ∙ ap (λ (l : List ℕ). wordBytes (ws ++ 0x80000000 ∷ replicate (14 - k) 0) ++ l) (single (32 * k))))
+    (sym (wordBytes-append (ws ++ 0x80000000 ∷ replicate (14 - k) 0) (32 * k ∷ []) ∙ ap (λ (l : List ℕ). fips.wordBytes (ws ++ 0x80000000 ∷ replicate (14 - k) 0) ++ l) (single (32 * k))))
 
 short-block-words : (ws : List ℕ) → Words ws → length ws ≤ 13 → Words (shortBlock ws)
 unfolding shortBlock
@@ -100,11 +91,11 @@ unfolding shortBlock
 length-shortBlock ws h = simp (length-append, length-replicate) (omega arith)
 
 -- the hash of at most thirteen words is one compression of their block
-pub short-words : (ws : List ℕ) → Words ws → length ws ≤ 13 → fips.sha1 (wordBytes ws) ≡ fips.output (fips.compress fips.start (shortBlock ws))
+pub short-words : (ws : List ℕ) → Words ws → length ws ≤ 13 → fips.sha1 (fips.wordBytes ws) ≡ fips.output (fips.compress fips.start (shortBlock ws))
 short-words ws b h =
     let l : length (shortBlock ws) ≡ 16 = length-shortBlock ws h in
-    let e : fips.block (fips.pad (wordBytes ws)) 0 16 ≡ shortBlock ws =
+    let e : fips.block (fips.pad (fips.wordBytes ws)) 0 16 ≡ shortBlock ws =
     ap (λ (p : List ℕ). fips.block p 0 16) (short-pad ws h)
     ∙ block-words 16 (shortBlock ws) (short-block-words ws b h) (omega arith)
     ∙ take-all 16 (shortBlock ws) (omega arith) in
-    one-block (wordBytes ws) (omega (arith, length-wordBytes ws)) ∙ ap (λ (m : List ℕ). fips.output (fips.compress fips.start m)) e
+    one-block (fips.wordBytes ws) (omega (arith, length-wordBytes ws)) ∙ ap (λ (m : List ℕ). fips.output (fips.compress fips.start m)) e

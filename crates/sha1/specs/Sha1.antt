@@ -111,9 +111,14 @@ pad m = m ++ 0x80 ∷ replicate ((119 - length m % 64) % 64) 0 ++ beBytes 8 (8 *
 abbrev pub endingBlocks : ℕ → ℕ
 endingBlocks n = (n + 72) / 64 - n / 64
 
--- the five words, high byte first
+-- words as bytes, high byte first (3.1)
+unfoldable pub wordBytes : List ℕ → List ℕ
+wordBytes [] = []
+wordBytes (w ∷ ws) = beBytes 4 w ++ wordBytes ws
+
+-- the hash's bytes: the five words one after the other (6.1.2)
 unfoldable pub output : State → List ℕ
-output s = beBytes 4 (s .a) ++ beBytes 4 (s .b) ++ beBytes 4 (s .c) ++ beBytes 4 (s .d) ++ beBytes 4 (s .e)
+output s = wordBytes (s .a ∷ s .b ∷ s .c ∷ s .d ∷ s .e ∷ [])
 
 -- the hash of a message (6.1)
 unfoldable pub sha1 : List ℕ → List ℕ

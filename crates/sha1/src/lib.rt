@@ -4,8 +4,8 @@
 //     let h = sha1::digest(message);
 //     if h.answer == answers::DONE { .. h.bytes .. }
 //
-// `digest` hashes whole messages. A caller that makes its blocks itself, as the key derivation does, compresses sixteen words
-// at a time from `start`.
+// `digest` hashes whole messages. The key derivation goes on from the state after one (`hash`), and compresses blocks of sixteen
+// words that it makes itself (`start`, `compress`).
 ghost use mathlib.Core.Path.{_≡_};
 ghost use Prim.Native.Nat.{_≤_};
 ghost use lib.ListN.{length};
@@ -15,6 +15,8 @@ mod blocks;
 mod padding;
 mod rounds;
 mod schedule;
+
+pub use blocks::output;
 
 // The five words that go from block to block (FIPS 180-4 6.1).
 pub struct State {
@@ -56,15 +58,15 @@ pub fn compress(s: State, m: [u32; 16]) -> State
     rounds::sums(s, r)
 }
 
-// The hash of a message within the limit: its whole blocks, then those that end it.
-fn hash(m: &[u8]) -> [u8; 20]
+// The state after a message within the limit: its whole blocks, then those that end it.
+pub fn hash(m: &[u8]) -> State
     requires { ⌜ length (now m) ≤ 65536 ⌝ }
-    ensures { λ r. ⌜ r ≡ fips.sha1 (now (m .entry)) ⌝ }
+    ensures { λ r. ⌜ fips.output r ≡ fips.sha1 (now (m .entry)) ⌝ }
 {
     let n = m.len();
     let tail = padding::ending(m);
     let whole = blocks::chain(m, n / 64, start());
-    blocks::output(blocks::chain(&tail, padding::ending_blocks(n), whole))
+    blocks::chain(&tail, padding::ending_blocks(n), whole)
 }
 
 // The hash of a message, or 18 with zeros for one longer than 65,536 bytes.
@@ -78,7 +80,7 @@ pub fn digest(message: &[u8]) -> Hashed
             bytes,
         };
     }
-    let bytes = hash(message);
+    let bytes = output(hash(message));
     Hashed {
         answer: answers::DONE,
         bytes,

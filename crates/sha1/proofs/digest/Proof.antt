@@ -12,7 +12,7 @@ returns c = simp (lt-ltb _ _ (c .if1 .taken))
 
 returns-2 : tie.Need-returns-2
 unfolding fips.hashed fips.hashRules firstOf
-returns-2 c = simp (le-ltb _ _ (c .before .if1 .left), c .hash .ensures)
+returns-2 c = simp (le-ltb _ _ (c .before .before .if1 .left), c .output .ensures, c .before .hash .ensures)
 
 pub digest-spec : {M : Type 1} → statement M
-digest-spec = tie.close (tie.spec returns (λ c κs. search needs) returns-2)
+digest-spec = tie.close (tie.spec returns (λ c κs. search needs) (λ c κs. search needs) returns-2)

@@ -1,0 +1,53 @@
+// The fifty thousand turns (000 4.2). A turn hashes 24 bytes, the counter and the five words before, which with the padding are one
+// block: its sixteen words are made from these, with no buffer of bytes in between.
+ghost use mathlib.Core.Path.{_≡_};
+ghost use mathlib.Core.List.{[], _∷_};
+ghost use Rattle.octets.specs.Octets.{be, leBytes};
+ghost use Rattle.sha1.specs.Sha1.{sha1, output, wordBytes};
+ghost use Rattle.password.specs.Key.{turn, turns, spins, blockHash};
+use sha1::State;
+
+// A number's four bytes, low byte first, as the word that they make high byte first.
+fn swapped(i: u32) -> u32
+    ensures { λ r. ⌜ r ≡ be (leBytes 4 i) ⌝ }
+{
+    let second = i / 256;
+    let third = second / 256;
+    let last = third / 256;
+    16777216 * (i % 256) + 65536 * (second % 256) + 256 * (third % 256) + last
+}
+
+// The hash of six words: they, the one bit, zeros and the length of 192 bits are one block.
+fn six(a: u32, b: u32, c: u32, d: u32, e: u32, f: u32) -> State
+    ensures { λ r. ⌜ output r ≡ sha1 (wordBytes (a ∷ b ∷ c ∷ d ∷ e ∷ f ∷ [])) ⌝ }
+{
+    let m = [a, b, c, d, e, f, 0x80000000, 0, 0, 0, 0, 0, 0, 0, 0, 192];
+    sha1::compress(sha1::start(), m)
+}
+
+// Turn i.
+fn next(i: u32, s: State) -> State
+    ensures { λ r. ⌜ output r ≡ turn i (output s) ⌝ }
+{
+    six(swapped(i), s.a, s.b, s.c, s.d, s.e)
+}
+
+// All the turns.
+pub fn spun(s: State) -> State
+    ensures { λ r. ⌜ output r ≡ turns spins (output s) ⌝ }
+{
+    let mut h = s;
+    let mut i: u32 = 0;
+    while i < 50000 {
+        h = next(i, h);
+        i += 1;
+    }
+    h
+}
+
+// B: the hash of H and block number 0.
+pub fn block_hash(s: State) -> State
+    ensures { λ r. ⌜ output r ≡ blockHash (output s) ⌝ }
+{
+    six(s.a, s.b, s.c, s.d, s.e, 0)
+}
