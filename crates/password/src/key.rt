@@ -6,6 +6,7 @@ ghost use lib.ListN.{length, take};
 ghost use Rattle.sha1.specs.Sha1.{sha1, output};
 ghost use Rattle.password.specs.Key as Key;
 use crate::turns;
+use sha1::State;
 
 // Salt and password: two bytes a unit, low byte first, after the salt's sixteen.
 fn message(salt: [u8; 16], password: &[u16]) -> [u8; 526]
@@ -55,12 +56,19 @@ fn derived(b: [u8; 20]) -> [u8; 40]
     k
 }
 
-// The forty bytes that a key of any size begins.
+// H: the state after salt and password and all the turns.
+pub fn password_hash(salt: [u8; 16], password: &[u16]) -> State
+    requires { ⌜ length (now password) ≤ 255 ⌝ }
+    ensures { λ r. ⌜ output r ≡ Key.passwordHash salt (now (password .entry)) ⌝ }
+{
+    let m = message(salt, password);
+    turns::spun(sha1::hash(&m[..16 + 2 * password.len()]))
+}
+
+// The forty bytes of which a key of any size is the first.
 pub fn material(salt: [u8; 16], password: &[u16]) -> [u8; 40]
     requires { ⌜ length (now password) ≤ 255 ⌝ }
     ensures { λ r. ⌜ r ≡ Key.material salt (now (password .entry)) ⌝ }
 {
-    let m = message(salt, password);
-    let h = turns::spun(sha1::hash(&m[..16 + 2 * password.len()]));
-    derived(sha1::output(turns::block_hash(h)))
+    derived(sha1::output(turns::block_hash(password_hash(salt, password))))
 }

@@ -1,39 +1,14 @@
--- The hash of salt and password, its turns, B, X and Y.
-use mathlib.Core.Path.{_≡_, sym}
-use Prim.Native.Nat.{_+_, _*_}
-use native.Mathlib.Omega.{arith}
+-- B, X and Y from H.
 use borrow.Author.Needs.{needs}
-use lib.ListN.{length, length-take}
-use lib.Seq.{length-take-le}
 use Rattle.password.specs.Key as Key
 use Rattle.password.proofs.key.material.Statement.{statement}
 use Rattle.password.proofs.key.material.Tie as tie
 
-slice-aggregate-hash : tie.Need-slice-aggregate-hash
-slice-aggregate-hash c =
-    let b = c .before .message .result in
-    let n : length b ≡ 526 = search needs in
-    sym (length-take-le (16 + 2 * length (c .before .before .before .args .password .now)) b (omega arith))
-
-hash-requires : tie.Need-hash-requires
-hash-requires c κs = rw length-take (omega arith)
-
 returns : tie.Need-returns
-unfolding Key.material Key.passwordHash
-returns c = simp (c .derived .ensures, c .before .output .ensures, c .before .before .block-hash .ensures, c .before .before .before .spun .ensures, c .before .before .before .before .hash .ensures, c .before .before .before .before .before .before .message .ensures)
+unfolding Key.material
+returns c = simp (c .derived .ensures, c .before .output .ensures, c .before .before .block-hash .ensures, c .before .before .before .password-hash .ensures)
 
 pub material-spec : {M : Type 1} → statement M
 material-spec =
     tie.close
-    (tie.spec
-    (λ c κs. search needs)
-    (λ c. search needs)
-    (λ c. search needs)
-    (λ c. search needs)
-    slice-aggregate-hash
-    hash-requires
-    (λ c κs. search needs)
-    (λ c κs. search needs)
-    (λ c κs. search needs)
-    (λ c κs. search needs)
-    returns)
+    (tie.spec (λ c κs. search needs) (λ c κs. search needs) (λ c κs. search needs) (λ c κs. search needs) returns)
