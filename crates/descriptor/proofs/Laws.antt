@@ -6,10 +6,10 @@ use mathlib.Core.Logic.{inl, inr}
 use Prim.Native.Nat.{ℕ, zero, suc, _+_, _-_, _/_, _%_, _≤_}
 use native.Mathlib.Omega.{arith}
 use borrow.Author.Tests.{ltb-false, eqb-true, not-false, ne-eqb}
-use lib.Dec.{ltb, eqb}
+use lib.Dec.{T, ltb, eqb}
 use lib.ListN.{length}
 use Rattle.octets.proofs.Parts.{length-part}
-use Rattle.answers.specs.Rules.{firstOf, testOf, OneOf}
+use Rattle.answers.specs.Rules.{firstOf, numbered, testOf, OneOf}
 use Rattle.answers.proofs.Laws.{rule-holds, either}
 use Rattle.descriptor.specs.Info as stream
 use Rattle.descriptor.specs.declared.Descriptor.{Descriptor}
@@ -23,10 +23,13 @@ or-false {a = false} h = (refl, h)
 abbrev pub Admitted : List ℕ → Type 0
 Admitted s = firstOf (stream.infoRules s) ≡ 0
 
+pub info-numbered : (s : List ℕ) → T (numbered (stream.infoRules s))
+unfolding stream.infoRules
+info-numbered s = tt
+
 -- the rule numbered n holds of it
 pub keeps : (n : ℕ) (s : List ℕ) → Admitted s → testOf n (stream.infoRules s) ≡ false
-unfolding stream.infoRules
-keeps n s h = rule-holds n (stream.infoRules s) tt h
+keeps n s h = rule-holds n (stream.infoRules s) (info-numbered s) h
 
 module _ (s : List ℕ) (h : Admitted s) where
   pub header-low : 32 ≤ stream.headerSize s

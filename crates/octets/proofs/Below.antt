@@ -47,11 +47,14 @@ module _ {n : ℕ} where
       (append-below (take at d) (take k s) (take-below at d b) (take-below k s c))
       (drop-below (at + k) d b)
 
--- ---- what is written is bytes
+-- ---- bytes, and what is written
+
+pub nil-bytes : Bytes []
+nil-bytes = nil-below (omega arith)
 
 pub leBytes-bytes : (n v : ℕ) → Bytes (leBytes n v)
 unfolding leBytes
-leBytes-bytes zero v = nil-below (omega arith)
+leBytes-bytes zero v = nil-bytes
 leBytes-bytes (suc n) v = cons-below (omega arith) (leBytes-bytes n (v / 256))
 
 pub beBytes-bytes : (n v : ℕ) → Bytes (beBytes n v)

@@ -1,6 +1,8 @@
 -- Bytes as numbers and numbers as bytes: low byte first as in 01 ("Numbers are little-endian"), high byte first as in
 -- FIPS 180-4 3.1. Assumes nothing.
+use mathlib.Core.Bool.{Bool, true, false, _&&_}
 use Prim.Native.Nat.{ℕ, zero, suc, _+_, _-_, _*_, _/_, _%_, _<_}
+use lib.Dec.{eqb}
 use mathlib.Core.List.{List, [], _∷_, _++_, reverse}
 use lib.ListN.{length, getD, take, drop, replicate}
 
@@ -41,3 +43,10 @@ beAt n o s = be (take n (drop o s))
 -- d up to a place, and zeros from there to where d ends
 unfoldable pub zeroFrom : ℕ → List ℕ → List ℕ
 zeroFrom at d = take at d ++ replicate (length d - at) 0
+
+-- whether two lists are equal, as a test
+unfoldable pub same : List ℕ → List ℕ → Bool
+same [] [] = true
+same [] (y ∷ ys) = false
+same (x ∷ xs) [] = false
+same (x ∷ xs) (y ∷ ys) = eqb x y && same xs ys

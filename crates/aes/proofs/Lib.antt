@@ -1,0 +1,9 @@
+pub mod Sums
+pub mod Solver
+pub mod Entries
+pub mod Columns
+pub mod States
+pub mod Undo
+pub mod Steps
+pub mod Schedule
+pub mod Keys

@@ -1,0 +1,11 @@
+-- A key of another length expands to no rounds, which the block operation refuses.
+use borrow.Author.Needs.{needs}
+use Rattle.aes.proofs.Keys.{decrypted-expanded}
+use Rattle.aes.proofs.decrypt.Statement.{statement}
+use Rattle.aes.proofs.decrypt.Tie as tie
+
+returns : tie.Need-returns
+returns c = cc (decrypted-expanded (c .before .before .before .args .key .now) (c .before .before .before .args .block))
+
+pub decrypt-spec : {M : Type 1} → statement M
+decrypt-spec = tie.close (tie.spec (λ c κs. search needs) (λ c κs. search needs) returns)

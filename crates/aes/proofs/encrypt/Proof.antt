@@ -1,0 +1,11 @@
+-- A key of another length expands to no rounds, which the block operation refuses.
+use borrow.Author.Needs.{needs}
+use Rattle.aes.proofs.Keys.{encrypted-expanded}
+use Rattle.aes.proofs.encrypt.Statement.{statement}
+use Rattle.aes.proofs.encrypt.Tie as tie
+
+returns : tie.Need-returns
+returns c = cc (encrypted-expanded (c .before .before .before .args .key .now) (c .before .before .before .args .block))
+
+pub encrypt-spec : {M : Type 1} → statement M
+encrypt-spec = tie.close (tie.spec (λ c κs. search needs) (λ c κs. search needs) returns)

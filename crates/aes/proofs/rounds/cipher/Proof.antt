@@ -1,0 +1,54 @@
+-- After the turn of round n the state has gone through rounds 1 to n.
+use mathlib.Core.Path.{_≡_, refl, ap, _∙_}
+use Prim.Native.Nat.{_+_, _-_, _<_, _≤_}
+use native.Mathlib.Omega.{arith}
+use borrow.Author.Needs.{needs}
+use lib.ListN.{length}
+use Rattle.aes.specs.Cipher as Cipher
+use Rattle.aes.proofs.Entries.{length-sbox}
+use Rattle.aes.proofs.Steps.{rounds-more}
+use Rattle.aes.proofs.rounds.cipher.Statement.{statement}
+use Rattle.aes.proofs.rounds.cipher.Tie as tie
+
+abbrev Inv-loop : tie.InvT-loop
+Inv-loop w rounds table s₀ n₀ s n = (0 < n) × (n ≤ rounds) × (s ≡ Cipher.rounds (Cipher.keyOf w) (n - 1) s₀)
+
+abbrev μ-loop : tie.MeasureT-loop
+μ-loop w rounds table s₀ n₀ s n = rounds - n
+
+loop-holds : tie.Need-loop-holds Inv-loop μ-loop
+unfolding Cipher.rounds
+loop-holds c = (omega arith, omega arith, refl)
+
+loop-again : tie.Need-loop-again Inv-loop μ-loop
+loop-again c =
+    let at = c .before .before .loop in
+    let key = Cipher.keyOf (c .before .before .before .before .args .w .now) in
+    let e : at .n + 1 - 1 ≡ at .n = omega arith in
+    (omega arith, omega arith, rw e (cc (rounds-more key (at .n) (c .before .before .before .add-round-key .result) (at .inv .0))))
+
+sub-bytes-requires : tie.Need-sub-bytes-requires Inv-loop μ-loop
+sub-bytes-requires c κs = ap length (c .before .before .before .pre .3) ∙ length-sbox
+
+returns : tie.Need-returns Inv-loop μ-loop
+unfolding Cipher.cipher Cipher.subBytes
+returns c =
+    let e : c .before .before .before .before .loop .n ≡ c .before .before .before .before .before .before .args .rounds = omega arith in
+    cc
+
+pub cipher-spec : {M : Type 1} → statement M
+cipher-spec =
+    tie.close
+    (tie.spec
+    Inv-loop
+    μ-loop
+    (λ c κs. search needs)
+    loop-holds
+    (λ c κs. search needs)
+    (λ c. omega arith)
+    (λ c. omega arith)
+    loop-again
+    sub-bytes-requires
+    (λ c κs. search needs)
+    (λ c κs. search needs)
+    returns)

@@ -1,0 +1,54 @@
+-- Before the turn of round n, rounds n down to 1 are still to come.
+use mathlib.Core.Path.{_≡_, refl, ap, _∙_}
+use Prim.Native.Nat.{_-_, _<_}
+use native.Mathlib.Omega.{arith}
+use borrow.Author.Needs.{needs}
+use lib.ListN.{length}
+use Rattle.aes.specs.Cipher as Cipher
+use Rattle.aes.proofs.Entries.{length-invSbox}
+use Rattle.aes.proofs.Steps.{invRounds-less, invRounds-none}
+use Rattle.aes.proofs.rounds.inv_cipher.Statement.{statement}
+use Rattle.aes.proofs.rounds.inv_cipher.Tie as tie
+
+abbrev Inv-loop : tie.InvT-loop
+Inv-loop w rounds table s₀ n₀ s n = (n < rounds) × (Cipher.invRounds (Cipher.keyOf w) n s ≡ Cipher.invRounds (Cipher.keyOf w) (rounds - 1) s₀)
+
+abbrev μ-loop : tie.MeasureT-loop
+μ-loop w rounds table s₀ n₀ s n = n
+
+loop-holds : tie.Need-loop-holds Inv-loop μ-loop
+loop-holds c = (omega arith, refl)
+
+loop-again : tie.Need-loop-again Inv-loop μ-loop
+loop-again c =
+    let at = c .before .before .loop in
+    let key = Cipher.keyOf (c .before .before .before .before .args .w .now) in
+    (omega arith, cc (invRounds-less key (at .n) (at .s) (omega arith)))
+
+sub-bytes-requires : tie.Need-sub-bytes-requires Inv-loop μ-loop
+sub-bytes-requires c κs = ap length (c .before .before .before .before .pre .3) ∙ length-invSbox
+
+returns : tie.Need-returns Inv-loop μ-loop
+unfolding Cipher.invCipher Cipher.invSubBytes
+returns c =
+    let at = c .before .before .before .before .loop in
+    let e : at .n ≡ 0 = omega arith in
+    cc (invRounds-none (Cipher.keyOf (c .before .before .before .before .before .before .args .w .now)) (at .s))
+
+pub inv-cipher-spec : {M : Type 1} → statement M
+inv-cipher-spec =
+    tie.close
+    (tie.spec
+    Inv-loop
+    μ-loop
+    (λ c κs. search needs)
+    (λ c. omega arith)
+    loop-holds
+    (λ c κs. search needs)
+    (λ c. omega arith)
+    (λ c. omega arith)
+    loop-again
+    (λ c κs. search needs)
+    sub-bytes-requires
+    (λ c κs. search needs)
+    returns)

@@ -1,0 +1,19 @@
+-- Each row is the first, begun at another byte.
+use borrow.Author.Needs.{needs}
+use Rattle.aes.specs.Cipher.{columns, invMixColumns}
+use Rattle.aes.proofs.rounds.inv_mix_column.Statement.{statement}
+use Rattle.aes.proofs.rounds.inv_mix_column.Tie as tie
+
+returns : tie.Need-returns
+unfolding columns invMixColumns
+returns c = cc
+
+pub inv-mix-column-spec : {M : Type 1} → statement M
+inv-mix-column-spec =
+    tie.close
+    (tie.spec
+    (λ c κs. search needs)
+    (λ c κs. search needs)
+    (λ c κs. search needs)
+    (λ c κs. search needs)
+    returns)

@@ -1,0 +1,25 @@
+-- The four steps in the document's order.
+use mathlib.Core.Path.{ap, _∙_}
+use borrow.Author.Needs.{needs}
+use lib.ListN.{length}
+use Rattle.aes.specs.Cipher.{invSubBytes, invRound}
+use Rattle.aes.proofs.Entries.{length-invSbox}
+use Rattle.aes.proofs.rounds.inv_round.Statement.{statement}
+use Rattle.aes.proofs.rounds.inv_round.Tie as tie
+
+sub-bytes-requires : tie.Need-sub-bytes-requires
+sub-bytes-requires c κs = ap length (c .before .pre .2) ∙ length-invSbox
+
+returns : tie.Need-returns
+unfolding invSubBytes invRound
+returns c = cc
+
+pub inv-round-spec : {M : Type 1} → statement M
+inv-round-spec =
+    tie.close
+    (tie.spec
+    (λ c κs. search needs)
+    sub-bytes-requires
+    (λ c κs. search needs)
+    (λ c κs. search needs)
+    returns)

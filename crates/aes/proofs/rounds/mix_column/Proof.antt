@@ -1,0 +1,14 @@
+-- Each row is the first, begun at another byte.
+use borrow.Author.Needs.{needs}
+use Rattle.aes.specs.Cipher.{columns, mixColumns}
+use Rattle.aes.proofs.rounds.mix_column.Statement.{statement}
+use Rattle.aes.proofs.rounds.mix_column.Tie as tie
+
+returns : tie.Need-returns
+unfolding columns mixColumns
+returns c = cc
+
+pub mix-column-spec : {M : Type 1} → statement M
+mix-column-spec =
+    tie.close
+    (tie.spec (λ c κs. search needs) (λ c κs. search needs) (λ c κs. search needs) (λ c κs. search needs) returns)

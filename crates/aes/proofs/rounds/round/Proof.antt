@@ -1,0 +1,25 @@
+-- The four steps in the document's order.
+use mathlib.Core.Path.{ap, _∙_}
+use borrow.Author.Needs.{needs}
+use lib.ListN.{length}
+use Rattle.aes.specs.Cipher.{subBytes, round}
+use Rattle.aes.proofs.Entries.{length-sbox}
+use Rattle.aes.proofs.rounds.round.Statement.{statement}
+use Rattle.aes.proofs.rounds.round.Tie as tie
+
+sub-bytes-requires : tie.Need-sub-bytes-requires
+sub-bytes-requires c κs = ap length (c .pre .2) ∙ length-sbox
+
+returns : tie.Need-returns
+unfolding subBytes round
+returns c = cc
+
+pub round-spec : {M : Type 1} → statement M
+round-spec =
+    tie.close
+    (tie.spec
+    sub-bytes-requires
+    (λ c κs. search needs)
+    (λ c κs. search needs)
+    (λ c κs. search needs)
+    returns)

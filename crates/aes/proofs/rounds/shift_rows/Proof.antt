@@ -1,0 +1,32 @@
+-- The sixteen places, written out.
+use mathlib.Core.Path.{refl}
+use borrow.Author.Needs.{needs}
+use Rattle.aes.specs.Cipher.{shift, shiftRows}
+use Rattle.aes.proofs.rounds.shift_rows.Statement.{statement}
+use Rattle.aes.proofs.rounds.shift_rows.Tie as tie
+
+returns : tie.Need-returns
+unfolding shift shiftRows
+returns c = refl
+
+pub shift-rows-spec : {M : Type 1} → statement M
+shift-rows-spec =
+    tie.close
+    (tie.spec
+    (λ c. search needs)
+    (λ c. search needs)
+    (λ c. search needs)
+    (λ c. search needs)
+    (λ c. search needs)
+    (λ c. search needs)
+    (λ c. search needs)
+    (λ c. search needs)
+    (λ c. search needs)
+    (λ c. search needs)
+    (λ c. search needs)
+    (λ c. search needs)
+    (λ c. search needs)
+    (λ c. search needs)
+    (λ c. search needs)
+    (λ c. search needs)
+    returns)

@@ -1,0 +1,91 @@
+-- The ways out of the verdict: a law for each, for this crate's proofs and those above. Assumes nothing.
+use mathlib.Core.Path.{_≡_, sym}
+use mathlib.Core.Bool.{true, false}
+use mathlib.Core.List.{List}
+use mathlib.Core.Logic.{inl, inr, ⊎-elim}
+use Prim.Native.Nat.{ℕ, _≤_, _<_}
+use native.Mathlib.Omega.{arith}
+use borrow.Author.Tests.{lt-ltb, le-ltb, ne-eqb, eqb-true}
+use lib.Dec.{eqb}
+use lib.ListN.{length, length-append}
+use lib.Seq.{length-take-le}
+use Rattle.octets.specs.Octets.{Bytes}
+use Rattle.octets.proofs.Below.{append-below, take-below}
+use Rattle.answers.specs.Rules.{firstOf}
+use Rattle.answers.proofs.Laws.{either, stop, then}
+use Rattle.sha1.proofs.Laws.{length-sha1, sha1-bytes}
+use Rattle.aes.specs.Aes.{keyLength, expanded}
+use Rattle.aes.proofs.Keys.{key-lengths}
+use Rattle.descriptor.specs.Info.{infoRules, described}
+use Rattle.descriptor.specs.declared.Descriptor.{Descriptor}
+use Rattle.descriptor.proofs.Laws.{Admitted, Sound, info-numbered}
+use Rattle.password.specs.Key as Key
+use Rattle.password.specs.Verdict as Verdict
+
+-- ---- the key
+
+pub length-material : (salt p : List ℕ) → length (Key.material salt p) ≡ 40
+unfolding Key.material Key.derived
+length-material salt p = simp (length-append, length-sha1)
+
+pub material-bytes : (salt p : List ℕ) → Bytes (Key.material salt p)
+unfolding Key.material Key.derived
+material-bytes salt p = append-below _ _ (sha1-bytes _) (sha1-bytes _)
+
+-- the key of a descriptor within its ranges is as long as it says
+module _ (d : Descriptor) (p : List ℕ) (h : Sound d) where
+  pub key-short : d .key .0 ≤ 32
+  key-short = ⊎-elim (λ e. omega arith) (⊎-elim (λ e. omega arith) (⊎-elim (λ e. omega arith) (λ e. absurd e))) (h .key)
+
+  pub length-key : length (Verdict.keyOf d p) ≡ d .key .0
+  unfolding Verdict.keyOf Key.keyBytes
+  length-key = length-take-le (d .key .0) (Key.material (d .salt) p) (omega (arith, length-material (d .salt) p, key-short))
+
+  pub key-fits : keyLength (length (Verdict.keyOf d p)) ≡ true
+  key-fits = rw length-key (key-lengths (d .key .0) (h .key))
+
+  pub key-bytes : Bytes (Verdict.keyOf d p)
+  unfolding Verdict.keyOf Key.keyBytes
+  key-bytes = take-below (d .key .0) (Key.material (d .salt) p) (material-bytes (d .salt) p)
+
+-- ---- the ways out
+
+module _ (info p : List ℕ) where
+  -- EncryptionInfo is refused
+  pub by-info : (Admitted info → ⊥) → Verdict.unlocked info p ≡ Verdict.refused (firstOf (infoRules info))
+  unfolding Verdict.unlocked Verdict.judged Verdict.verdictRules
+  by-info h =
+      let e : firstOf (Verdict.verdictRules info p) ≡ firstOf (infoRules info) = stop (infoRules info) (Verdict.passwordRules (described info) p) h in
+      rw e (simp (ne-eqb _ _ h))
+
+  module _ (h : Admitted info) where
+    rest : Verdict.judged info p ≡ firstOf (Verdict.passwordRules (described info) p)
+    unfolding Verdict.judged Verdict.verdictRules
+    rest = then (infoRules info) (Verdict.passwordRules (described info) p) (info-numbered info) h
+
+    -- the password is too long
+    pub by-length : 255 < length p → Verdict.unlocked info p ≡ Verdict.refused 11
+    unfolding Verdict.unlocked Verdict.passwordRules firstOf
+    by-length l = rw rest (simp (lt-ltb _ _ l))
+
+    module _ (l : length p ≤ 255) where
+      -- it does not match
+      pub by-verifier : Verdict.matches (Verdict.keyOf (described info) p) (described info .verifier) (described info .hash) ≡ false
+          → Verdict.unlocked info p ≡ Verdict.refused 12
+      unfolding Verdict.unlocked Verdict.passwordRules firstOf
+      by-verifier m = rw rest (simp (le-ltb _ _ l, m))
+
+      -- it matches
+      pub done : Verdict.matches (Verdict.keyOf (described info) p) (described info .verifier) (described info .hash) ≡ true
+          → Verdict.unlocked info p ≡ record { answer = 0; key = expanded (Verdict.keyOf (described info) p) }
+      unfolding Verdict.unlocked Verdict.passwordRules firstOf
+      done m = rw rest (simp (le-ltb _ _ l, m))
+
+-- the answer is the verdict, whichever way out
+pub unlocked-answer : (info p : List ℕ) → Verdict.unlocked info p .answer ≡ Verdict.judged info p
+unfolding Verdict.unlocked Verdict.refused
+unlocked-answer info p =
+    elim (either (eqb (Verdict.judged info p) 0)) [
+      | inl e ↦ rw e (sym (eqb-true _ _ e))
+      | inr e ↦ rw e
+    ]
