@@ -71,3 +71,71 @@ void baseline_sha1(const u8 *m, size n, u8 *out)
     put(out + 12, s.d);
     put(out + 16, s.e);
 }
+
+/* ---- AES in bytes and doublings, table and expanded key lent */
+
+static u8 twice(u8 a) { return (u8)(a << 1) ^ (u8)((a >> 7) * 0x1b); }
+
+static u8 by_9(u8 a) { return twice(twice(twice(a))) ^ a; }
+static u8 by_11(u8 a) { return twice(twice(twice(a))) ^ twice(a) ^ a; }
+static u8 by_13(u8 a) { return twice(twice(twice(a))) ^ twice(twice(a)) ^ a; }
+static u8 by_14(u8 a) { return twice(twice(twice(a))) ^ twice(twice(a)) ^ twice(a); }
+
+static void add_key(const u8 *w, size r, u8 *s)
+{
+    for (size i = 0; i < 16; i++) s[i] ^= w[16 * r + i];
+}
+
+static void turn(const u8 *table, const u8 *places, u8 *s)
+{
+    u8 t[16];
+    for (size i = 0; i < 16; i++) t[i] = table[s[places[i]]];
+    for (size i = 0; i < 16; i++) s[i] = t[i];
+}
+
+static void mix_columns(u8 *s)
+{
+    for (size c = 0; c < 16; c += 4) {
+        u8 a[4] = {s[c], s[c + 1], s[c + 2], s[c + 3]};
+        for (size j = 0; j < 4; j++) s[c + j] = twice(a[j] ^ a[(j + 1) % 4]) ^ a[(j + 1) % 4] ^ a[(j + 2) % 4] ^ a[(j + 3) % 4];
+    }
+}
+
+static void unmix_columns(u8 *s)
+{
+    for (size c = 0; c < 16; c += 4) {
+        u8 a[4] = {s[c], s[c + 1], s[c + 2], s[c + 3]};
+        for (size j = 0; j < 4; j++) s[c + j] = by_14(a[j]) ^ by_11(a[(j + 1) % 4]) ^ by_13(a[(j + 2) % 4]) ^ by_9(a[(j + 3) % 4]);
+    }
+}
+
+static const u8 left[16] = {0, 5, 10, 15, 4, 9, 14, 3, 8, 13, 2, 7, 12, 1, 6, 11};
+static const u8 right[16] = {0, 13, 10, 7, 4, 1, 14, 11, 8, 5, 2, 15, 12, 9, 6, 3};
+
+void baseline_encrypt(const u8 *w, size rounds, const u8 *table, u8 *buf, size n)
+{
+    for (u8 *s = buf; s + 16 <= buf + n; s += 16) {
+        add_key(w, 0, s);
+        for (size r = 1; r < rounds; r++) {
+            turn(table, left, s);
+            mix_columns(s);
+            add_key(w, r, s);
+        }
+        turn(table, left, s);
+        add_key(w, rounds, s);
+    }
+}
+
+void baseline_decrypt(const u8 *w, size rounds, const u8 *table, u8 *buf, size n)
+{
+    for (u8 *s = buf; s + 16 <= buf + n; s += 16) {
+        add_key(w, rounds, s);
+        for (size r = rounds - 1; r > 0; r--) {
+            turn(table, right, s);
+            add_key(w, r, s);
+            unmix_columns(s);
+        }
+        turn(table, right, s);
+        add_key(w, 0, s);
+    }
+}

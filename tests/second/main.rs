@@ -1,10 +1,22 @@
 //! The vectors once more, by code that shares nothing with the crates: written from the standards, in another language, with no
 //! library for what it checks. It prints the lines that crates/vectors prints; the gate compares the two.
+mod aes;
+mod office;
 mod sha1;
 
 fn hex(bytes: &[u8]) -> String {
     bytes.iter().map(|b| format!("{b:02x}")).collect()
 }
+
+fn bytes(digits: &str) -> Vec<u8> {
+    (0..digits.len()).step_by(2).map(|i| u8::from_str_radix(&digits[i..i + 2], 16).unwrap()).collect()
+}
+
+fn units(text: &str) -> Vec<u16> {
+    text.encode_utf16().collect()
+}
+
+// ---- SHA-1 (FIPS 180-4)
 
 fn hash_line(name: &str, message: &[u8]) {
     let (answer, digest) = if message.len() > 65_536 { (18, [0; 20]) } else { (0, sha1::sha1(message)) };
@@ -21,6 +33,57 @@ fn hashes() {
     }
 }
 
+// ---- AES (FIPS 197, appendices A and C)
+
+fn block_line(n: usize, way: &str, block: Option<[u8; 16]>) {
+    let answer = if block.is_some() { 0 } else { 8 };
+    println!("aes key {n}: {way} answer {answer} {}", hex(&block.unwrap_or([0; 16])));
+}
+
+fn ciphers() {
+    for key in [
+        "2b7e151628aed2a6abf7158809cf4f3c",
+        "8e73b0f7da0e6452c810f32b809079e562f8ead2522c6b7b",
+        "603deb1015ca71be2b73aef0857d77811f352c073b6108d72d9810a30914dff4",
+    ] {
+        let (n, aes) = (key.len() / 2, aes::Aes::new(&bytes(key)).unwrap());
+        println!("aes key {n}: rounds {} last round key {}", aes.rounds(), hex(&aes.last_round_key()));
+    }
+    let rising: Vec<u8> = (0..33).collect();
+    let block: [u8; 16] = bytes("00112233445566778899aabbccddeeff").try_into().unwrap();
+    for n in [16, 24, 32, 0, 15, 17, 23, 31, 33] {
+        let aes = aes::Aes::new(&rising[..n]);
+        let there = aes.as_ref().map(|a| a.encrypt(block));
+        block_line(n, "encrypt", there);
+        block_line(n, "decrypt", aes.as_ref().map(|a| a.decrypt(there.unwrap())));
+    }
+}
+
+// ---- the key derivation and the verdict (000 section 8, 002)
+
+fn key_line(name: &str, salt: &str, password: &[u16]) {
+    let d = office::derive(&bytes(salt), password);
+    let key = |n: usize| hex(&d.key[..n]);
+    println!("key {name}: H {} B {} 16 {} 24 {} 32 {}", hex(&d.h), hex(&d.b), key(16), key(24), key(32));
+}
+
+fn keys() {
+    let rising = "000102030405060708090a0b0c0d0e0f";
+    key_line("password, rising salt", rising, &units("password"));
+    key_line("Password1234_", "e88266490c5bd1eebd2b4394e3f830ef", &units("Password1234_"));
+    key_line("password, salt 00 to ff", "00112233445566778899aabbccddeeff", &units("password"));
+    key_line("empty, rising salt", rising, &[]);
+    key_line("0 and half a pair, rising salt", rising, &[0, 0xd800, 0xffff]);
+    let verifier: [u8; 16] = bytes("2589aebb860b8a41fa690e76ed56b0be").try_into().unwrap();
+    let hash: [u8; 32] = bytes("deddb6b29f9cd382a0a204a51b7fdf7eb1233f14fe5c99d96f5de4db083d925e").try_into().unwrap();
+    for (name, password) in [("000 8.4", "password"), ("000 8.4, one unit off", "passwore")] {
+        let answer = office::verdict(32, &bytes(rising), verifier, hash, &units(password));
+        println!("verdict {name}: answer {answer}");
+    }
+}
+
 fn main() {
     hashes();
+    ciphers();
+    keys();
 }

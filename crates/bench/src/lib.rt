@@ -1,4 +1,5 @@
-// What `make bench` measures, for C to call: each function does its work once, and answers a number that depends on all of it.
+// What `make bench` measures, for C to call: each function does its work once, and answers a number that depends on it.
+mod blocks;
 
 // The first eight bytes of a hash, as a number.
 #[no_mangle]
@@ -6,4 +7,44 @@ pub extern "C" fn bench_sha1(message: &[u8]) -> u64 {
     let h = sha1::digest(message);
     let bytes = h.bytes;
     octets::le64(&bytes, 0)
+}
+
+// Every whole block of a buffer encrypted in place, table and expanded key lent; the answer.
+#[no_mangle]
+pub extern "C" fn bench_encrypt(key: &[u8], buf: &mut [u8]) -> u64 {
+    let e = aes::expand(key);
+    let rounds = e.rounds;
+    if rounds == 0 {
+        return 8;
+    }
+    if 14 < rounds {
+        return 8;
+    }
+    let w = e.bytes;
+    let table = aes::tables::SBOX;
+    blocks::encrypt(&w, rounds, &table, buf);
+    0
+}
+
+// The same, decrypted.
+#[no_mangle]
+pub extern "C" fn bench_decrypt(key: &[u8], buf: &mut [u8]) -> u64 {
+    let e = aes::expand(key);
+    let rounds = e.rounds;
+    if rounds == 0 {
+        return 8;
+    }
+    if 14 < rounds {
+        return 8;
+    }
+    let w = e.bytes;
+    let table = aes::tables::INV_SBOX;
+    blocks::decrypt(&w, rounds, &table, buf);
+    0
+}
+
+// A verdict.
+#[no_mangle]
+pub extern "C" fn bench_verdict(info: &[u8], password: &[u16]) -> u64 {
+    password::verdict(info, password) as u64
 }

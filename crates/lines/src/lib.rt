@@ -25,11 +25,18 @@ fn byte(b: u8) {
     text(&[digit(b / 16), digit(b % 16)]);
 }
 
-// Bytes in hexadecimal.
-pub fn hex(s: &[u8]) {
-    let mut i = 0;
-    while i < s.len() {
-        byte(s[i]);
+// The bytes of s from `from` up to `to`, in hexadecimal; what is past the end is left out.
+pub fn part(s: &[u8], from: usize, to: usize) {
+    let mut i = from;
+    while i < to {
+        if i < s.len() {
+            byte(s[i]);
+        }
         i += 1;
     }
+}
+
+// Bytes in hexadecimal.
+pub fn hex(s: &[u8]) {
+    part(s, 0, s.len());
 }

@@ -13,6 +13,9 @@ mod turns;
 mod verifier;
 
 use aes::Expanded;
+pub use key::material;
+pub use key::password_hash;
+pub use turns::block_hash;
 
 // An answer, and the expanded key where it is 0: zeros and no rounds where it is not.
 pub struct Unlocked {

@@ -22,7 +22,7 @@ fn six(a: u32, b: u32, c: u32, d: u32, e: u32, f: u32) -> State
     ensures { λ r. ⌜ output r ≡ sha1 (wordBytes (a ∷ b ∷ c ∷ d ∷ e ∷ f ∷ [])) ⌝ }
 {
     let m = [a, b, c, d, e, f, 0x80000000, 0, 0, 0, 0, 0, 0, 0, 0, 192];
-    sha1::compress(sha1::start(), m)
+    sha1::compress(sha1::start(), &m)
 }
 
 // Turn i.

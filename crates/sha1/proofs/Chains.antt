@@ -1,15 +1,13 @@
--- A run of blocks reads its own bytes alone, so it goes in parts. Assumes nothing.
-use mathlib.Core.Path.{_≡_, refl, sym, ap, ap₂, _∙_}
+-- A run of blocks grows by one; a block reads its own 64 bytes alone. Assumes nothing.
+use mathlib.Core.Path.{_≡_, refl, sym, ap, _∙_}
 use mathlib.Core.List.{List}
 use Prim.Native.Nat.{ℕ, zero, suc, _+_, _*_, _≤_, _<_}
-use native.Mathlib.Nat.{add-suc, add-zero}
 use native.Mathlib.Numerals.{add-one}
 use native.Mathlib.Omega.{arith}
 use lib.ListN.{length, take, drop, set}
-use lib.Seq.{take-take, drop-drop, take-suc-set}
+use lib.Seq.{take-suc-set}
 use Rattle.octets.specs.Octets.{beAt}
 use Rattle.octets.proofs.Numbers.{beAt-part}
-use Rattle.octets.proofs.Parts.{drop-take}
 use Rattle.sha1.specs.Sha1 as fips
 use Rattle.sha1.specs.declared.State.{State}
 
@@ -35,27 +33,5 @@ block-part (suc t) o p h =
     let e : 0 + 4 * t ≡ 4 * t = omega arith in
     rw (block-part t o p (omega arith), e, beAt-part 4 (4 * t) 64 o p (omega arith))
 
-block-same : (o u : ℕ) (p q : List ℕ) → take 64 (drop o p) ≡ take 64 (drop u q) → fips.block p o 16 ≡ fips.block q u 16
+pub block-same : (o u : ℕ) (p q : List ℕ) → take 64 (drop o p) ≡ take 64 (drop u q) → fips.block p o 16 ≡ fips.block q u 16
 block-same o u p q e = sym (block-part 16 o p (omega arith)) ∙ ap (λ (l : List ℕ). fips.block l 0 16) e ∙ block-part 16 u q (omega arith)
-
--- two lists with the same first n blocks
-pub chain-same : (n : ℕ) (p q : List ℕ) (s : State) → take (64 * n) p ≡ take (64 * n) q → fips.chain p n s ≡ fips.chain q n s
-unfolding fips.chain
-chain-same zero p q s e = refl
-chain-same (suc n) p q s e =
-    let k : 64 * suc n ≡ 64 * n + 64 = omega arith in
-    let f : take (64 * n + 64) p ≡ take (64 * n + 64) q = rw k at e in
-    let h : take (64 * n) p ≡ take (64 * n) q =
-    sym (take-take (64 * n) (64 * n + 64) p (omega arith)) ∙ ap (take (64 * n)) f ∙ take-take (64 * n) (64 * n + 64) q (omega arith) in
-    let b : take 64 (drop (64 * n) p) ≡ take 64 (drop (64 * n) q) =
-    sym (drop-take (64 * n) 64 p) ∙ ap (drop (64 * n)) f ∙ drop-take (64 * n) 64 q in
-    ap₂ fips.compress (chain-same n p q s h) (block-same (64 * n) (64 * n) p q b)
-
--- k blocks, then the n after them
-pub chain-add : (k n : ℕ) (p : List ℕ) (s : State) → fips.chain (drop (64 * k) p) n (fips.chain p k s) ≡ fips.chain p (k + n) s
-unfolding fips.chain
-chain-add k zero p s = rw add-zero
-chain-add k (suc n) p s =
-    let e : 64 * k + 64 * n ≡ 64 * (k + n) = omega arith in
-    let b : take 64 (drop (64 * n) (drop (64 * k) p)) ≡ take 64 (drop (64 * (k + n)) p) = rw (drop-drop, e) in
-    rw add-suc (ap₂ fips.compress (chain-add k n p s) (block-same (64 * n) (64 * (k + n)) (drop (64 * k) p) p b))

@@ -1,16 +1,17 @@
 -- The last blocks are laid over zeros: what is left of the message, its one bit, and its length. Assumes nothing.
 use mathlib.Core.Path.{_≡_, refl, sym, ap, _∙_}
 use mathlib.Core.List.{List, [], _∷_, _++_, append-nil, append-assoc}
-use Prim.Native.Nat.{ℕ, suc, _+_, _-_, _*_, _/_, _%_, _≤_}
+use Prim.Native.Nat.{ℕ, suc, _+_, _-_, _*_, _/_, _%_, _≤_, _<_}
 use native.Mathlib.Omega.{arith}
 use lib.ListN.{length, take, drop, set, replicate, length-append, length-drop, length-replicate, replicate-append-replicate}
-use lib.Seq.{paste, set-at, take-all, take-at, take-append-le, drop-append-le}
+use lib.Seq.{paste, set-at, take-at, drop-drop, take-append-le, drop-append-le}
 use Rattle.octets.specs.Octets.{beBytes}
 use Rattle.octets.proofs.Numbers.{length-beBytes, beBytes-wide}
-use Rattle.octets.proofs.Parts.{paste-next, drop-replicate, fill-next}
+use Rattle.octets.proofs.Parts.{drop-take, part-part, paste-next, drop-replicate, fill-next}
 use Rattle.sha1.specs.Sha1 as fips
 use Rattle.sha1.specs.declared.State.{State}
-use Rattle.sha1.proofs.Chains.{chain-same, chain-add}
+use Rattle.sha1.specs.Ending.{endingBlocks, Ends}
+use Rattle.sha1.proofs.Chains.{block-same}
 
 -- the zeros between the one bit and the length field
 abbrev zeros : ℕ → ℕ
@@ -64,31 +65,41 @@ laid s b t₁ t₂ r k j hs hb h e₁ e₂ =
 
 -- the blocks that end a message, as they are laid
 pub ending-law : (m t₁ t₂ : List ℕ) → length m ≤ 65536 → t₁ ≡ paste (replicate 128 0) 0 (drop (length m - length m % 64) m) (length m % 64)
-    → t₂ ≡ paste (set t₁ (length m % 64) 0x80) (64 * fips.endingBlocks (length m) - 4) (beBytes 4 (8 * length m)) 4
-    → take (64 * fips.endingBlocks (length m)) t₂ ≡ drop (64 * (length m / 64)) (fips.pad m)
+    → t₂ ≡ paste (set t₁ (length m % 64) 0x80) (64 * endingBlocks (length m) - 4) (beBytes 4 (8 * length m)) 4
+    → take (64 * endingBlocks (length m)) t₂ ≡ drop (64 * (length m / 64)) (fips.pad m)
 ending-law m t₁ t₂ h e₁ e₂ =
     let o : length m - length m % 64 ≡ 64 * (length m / 64) = omega arith in
-    let a : 64 * fips.endingBlocks (length m) - 4 ≡ length m % 64 + suc (zeros (length m) + 4) = omega arith in
-    let b : 64 * fips.endingBlocks (length m) ≡ length m % 64 + suc (zeros (length m) + 4) + 4 = omega arith in
+    let a : 64 * endingBlocks (length m) - 4 ≡ length m % 64 + suc (zeros (length m) + 4) = omega arith in
+    let b : 64 * endingBlocks (length m) ≡ length m % 64 + suc (zeros (length m) + 4) + 4 = omega arith in
     let s : length (drop (64 * (length m / 64)) m) ≡ length m % 64 = rw length-drop (omega arith) in
     rw b (laid (drop (64 * (length m / 64)) m) (beBytes 4 (8 * length m)) t₁ t₂ (length m % 64) (zeros (length m) + 4) (123 - length m % 64 - zeros (length m))
     s (length-beBytes 4 (8 * length m)) (omega arith) (rw o at e₁) (rw a at e₂))
     ∙ sym (pad-drop m (64 * (length m / 64)) (omega arith) h)
 
--- the whole blocks, and then those that end the message, are the padded message's
-pub hash-law : (m t : List ℕ) → take (64 * fips.endingBlocks (length m)) t ≡ drop (64 * (length m / 64)) (fips.pad m)
-    → fips.output (fips.chain t (fips.endingBlocks (length m)) (fips.chain m (length m / 64) fips.start)) ≡ fips.sha1 m
+-- block i of the padded message is the message's own, or one of those that end it
+pub own-block : (m : List ℕ) (i : ℕ) → i < length m / 64 → fips.block m (64 * i) 16 ≡ fips.block (fips.pad m) (64 * i) 16
+own-block m i h =
+    block-same (64 * i) (64 * i) m (fips.pad m)
+    (sym (drop-take (64 * i) 64 m) ∙ ap (drop (64 * i)) (pad-take m (64 * i + 64) (omega arith)) ∙ drop-take (64 * i) 64 (fips.pad m))
+
+pub ending-block : (m t : List ℕ) (i : ℕ) → Ends m t → length m / 64 ≤ i → 64 * i < length (fips.pad m)
+    → fips.block t (64 * (i - length m / 64)) 16 ≡ fips.block (fips.pad m) (64 * i) 16
+ending-block m t i e low high =
+    let w : ℕ = length m / 64 in
+    let k : ℕ = 64 * (i - w) in
+    let n : k + 64 ≤ 64 * endingBlocks (length m) = omega (arith, length-pad m) in
+    let o : 64 * w + k ≡ 64 * i = omega arith in
+    let z : 0 + k ≡ k = omega arith in
+    block-same k (64 * i) t (fips.pad m)
+    (sym (rw z at (part-part 64 k (64 * endingBlocks (length m)) 0 t n))
+    ∙ ap (λ (l : List ℕ). take 64 (drop k l)) (e .begins)
+    ∙ rw (drop-drop, o))
+
+pub hash-law : (m : List ℕ) (s : State) → s ≡ fips.chain (fips.pad m) ((length m + 72) / 64) fips.start → fips.output s ≡ fips.sha1 m
 unfolding fips.sha1
-hash-law m t e =
-    let n : length (fips.pad m) / 64 ≡ length m / 64 + fips.endingBlocks (length m) = omega (arith, length-pad m) in
-    let p : List ℕ = drop (64 * (length m / 64)) (fips.pad m) in
-    let l : length p ≤ 64 * fips.endingBlocks (length m) = rw (length-drop, length-pad) (omega arith) in
-    ap fips.output (
-    ap (fips.chain t (fips.endingBlocks (length m))) (chain-same (length m / 64) m (fips.pad m) fips.start (pad-take m (64 * (length m / 64)) (omega arith)))
-    ∙ chain-same (fips.endingBlocks (length m)) t p _ (e ∙ sym (take-all (64 * fips.endingBlocks (length m)) p l))
-    ∙ chain-add (length m / 64) (fips.endingBlocks (length m)) (fips.pad m) fips.start
-    ∙ ap (λ (k : ℕ). fips.chain (fips.pad m) k fips.start) (sym n)
-    )
+hash-law m s e =
+    let n : length (fips.pad m) / 64 ≡ (length m + 72) / 64 = omega (arith, length-pad m) in
+    rw (n, e)
 
 -- the five words' bytes, laid one after the other
 pub output-law : (s : State) (x₁ x₂ x₃ x₄ x₅ : List ℕ) → x₁ ≡ paste (replicate 20 0) 0 (beBytes 4 (s .a)) 4 → x₂ ≡ paste x₁ 4 (beBytes 4 (s .b)) 4

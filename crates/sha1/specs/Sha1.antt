@@ -107,10 +107,6 @@ chain p (suc n) s = compress (chain p n s) (block p (64 * n) 16)
 unfoldable pub pad : List ℕ → List ℕ
 pad m = m ++ 0x80 ∷ replicate ((119 - length m % 64) % 64) 0 ++ beBytes 8 (8 * length m)
 
--- how many blocks of a padded message of n bytes come after the message's own whole ones
-abbrev pub endingBlocks : ℕ → ℕ
-endingBlocks n = (n + 72) / 64 - n / 64
-
 -- words as bytes, high byte first (3.1)
 unfoldable pub wordBytes : List ℕ → List ℕ
 wordBytes [] = []

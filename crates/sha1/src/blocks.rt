@@ -1,10 +1,12 @@
 // A message's blocks, one after the other (FIPS 180-4 5.2.1, 6.1.2), and the hash's bytes.
 ghost use mathlib.Core.Path.{_≡_};
-ghost use Prim.Native.Nat.{_+_, _*_, _≤_};
+ghost use Prim.Native.Nat.{_+_, _*_, _≤_, _<_};
 ghost use lib.ListN.{length};
 ghost use Rattle.sha1.specs.Sha1 as fips;
+ghost use Rattle.sha1.specs.Ending.{Ends};
 use crate::State;
 use crate::compress;
+use crate::start;
 
 // The sixteen words of the block at `at`.
 fn block(p: &[u8], at: usize) -> [u32; 16]
@@ -20,18 +22,31 @@ fn block(p: &[u8], at: usize) -> [u32; 16]
     m
 }
 
-// The first n blocks of p.
-pub fn chain(p: &[u8], n: usize, s: State) -> State
-    requires { ⌜ 64 * n ≤ length (now p) ⌝ }
-    ensures { λ r. ⌜ r ≡ fips.chain (now (p .entry)) n s ⌝ }
+// The sixteen words of block i of the padded message: of the message itself, or of the blocks that end it.
+fn padded_block(m: &[u8], tail: &[u8], i: usize) -> [u32; 16]
+    requires { ⌜ Ends (now m) (now tail) × (64 * i < length (fips.pad (now m))) ⌝ }
+    ensures { λ r. ⌜ r ≡ fips.block (fips.pad (now (m .entry))) (64 * i) 16 ⌝ }
 {
-    let mut r = s;
+    let whole = m.len() / 64;
+    if i < whole {
+        return block(m, 64 * i);
+    }
+    block(tail, 64 * (i - whole))
+}
+
+// The state after the first n blocks of the padded message.
+pub fn chain(m: &[u8], tail: &[u8], n: usize) -> State
+    requires { ⌜ Ends (now m) (now tail) × (64 * n ≤ length (fips.pad (now m))) ⌝ }
+    ensures { λ r. ⌜ r ≡ fips.chain (fips.pad (now (m .entry))) n fips.start ⌝ }
+{
+    let mut s = start();
     let mut i = 0;
     while i < n {
-        r = compress(r, block(p, 64 * i));
+        let words = padded_block(m, tail, i);
+        s = compress(s, &words);
         i += 1;
     }
-    r
+    s
 }
 
 // The five words, high byte first.

@@ -50,23 +50,21 @@ pub fn start() -> State
 }
 
 // One block of sixteen words.
-pub fn compress(s: State, m: [u32; 16]) -> State
-    ensures { λ r. ⌜ r ≡ fips.compress s m ⌝ }
+pub fn compress(s: State, m: &[u32; 16]) -> State
+    ensures { λ r. ⌜ r ≡ fips.compress s (now (m .entry)) ⌝ }
 {
     let w = schedule::schedule(m);
     let r = rounds::eighty(&w, s);
     rounds::sums(s, r)
 }
 
-// The state after a message within the limit: its whole blocks, then those that end it.
+// The state after a message within the limit, and what ends it.
 pub fn hash(m: &[u8]) -> State
     requires { ⌜ length (now m) ≤ 65536 ⌝ }
     ensures { λ r. ⌜ fips.output r ≡ fips.sha1 (now (m .entry)) ⌝ }
 {
-    let n = m.len();
     let tail = padding::ending(m);
-    let whole = blocks::chain(m, n / 64, start());
-    blocks::chain(&tail, padding::ending_blocks(n), whole)
+    blocks::chain(m, &tail, (m.len() + 72) / 64)
 }
 
 // The hash of a message, or 18 with zeros for one longer than 65,536 bytes.

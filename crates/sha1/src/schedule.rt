@@ -29,8 +29,8 @@ fn extend(w: &mut [u32; 80], from: usize, to: usize)
 }
 
 // The schedule of sixteen words.
-pub fn schedule(m: [u32; 16]) -> [u32; 80]
-    ensures { λ r. ⌜ r ≡ fips.words m 80 ⌝ }
+pub fn schedule(m: &[u32; 16]) -> [u32; 80]
+    ensures { λ r. ⌜ r ≡ fips.words (now (m .entry)) 80 ⌝ }
 {
     let mut w = [0u32; 80];
     let mut t = 0;

@@ -1,69 +1,11 @@
-// The published vectors, and lengths around a block's end, through the public entries: a line each, which the gate compares with
+// The published vectors, and inputs around the rules' edges, through the public entries: a line each, which the gate compares with
 // the file stdout and with what tests/second prints of its own.
-//
-// A pattern of n bytes has i modulo 251 as its byte i.
-ghost use Prim.Native.Nat.{_≤_};
-ghost use lib.ListN.{length};
-
-// Byte i becomes i modulo 251.
-fn pattern(s: &mut [u8]) {
-    let mut i = 0;
-    while i < s.len() {
-        s[i] = (i % 251) as u8;
-        i += 1;
-    }
-}
-
-// The answer and the hash of a message.
-fn hashed(message: &[u8]) {
-    let h = sha1::digest(message);
-    lines::text(b": answer ");
-    lines::number(h.answer as u64);
-    lines::text(b" ");
-    let bytes = h.bytes;
-    lines::hex(&bytes);
-    lines::text(b"\n");
-}
-
-// A message of its own.
-fn message(name: &[u8], m: &[u8]) {
-    lines::text(b"sha1 ");
-    lines::text(name);
-    hashed(m);
-}
-
-// The first n bytes of the pattern.
-fn patterned(s: &[u8], n: usize)
-    requires { ⌜ n ≤ length (now s) ⌝ }
-{
-    lines::text(b"sha1 pattern ");
-    lines::number(n as u64);
-    hashed(&s[..n]);
-}
-
-// FIPS 180-4's examples that fit, and lengths at which the padding changes its shape.
-fn hashes() {
-    message(b"empty", b"");
-    message(b"abc", b"abc");
-    message(
-        b"two blocks",
-        b"abcdbcdecdefdefgefghfghighijhijkijkljklmklmnlmnomnopnopq",
-    );
-    let mut s = [0u8; 65537];
-    pattern(&mut s);
-    patterned(&s, 1);
-    patterned(&s, 55);
-    patterned(&s, 56);
-    patterned(&s, 63);
-    patterned(&s, 64);
-    patterned(&s, 65);
-    patterned(&s, 119);
-    patterned(&s, 120);
-    patterned(&s, 4096);
-    patterned(&s, 65536);
-    patterned(&s, 65537);
-}
+mod ciphers;
+mod hashes;
+mod keys;
 
 fn main() {
-    hashes();
+    hashes::all();
+    ciphers::all();
+    keys::all();
 }

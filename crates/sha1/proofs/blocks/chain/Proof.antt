@@ -1,4 +1,4 @@
--- Each turn compresses one block more.
+-- Each turn compresses one block more of the padded message.
 use mathlib.Core.Path.{_≡_, sym, ap₂, _∙_}
 use Prim.Native.Nat.{_-_, _≤_}
 use native.Mathlib.Omega.{arith}
@@ -9,23 +9,26 @@ use Rattle.sha1.proofs.blocks.chain.Statement.{statement}
 use Rattle.sha1.proofs.blocks.chain.Tie as tie
 
 abbrev Inv-loop : tie.InvT-loop
-Inv-loop p n r₀ i₀ r i = (i ≤ n) × (r ≡ fips.chain p i r₀)
+Inv-loop m tail n s₀ i₀ s i = (i ≤ n) × (s ≡ fips.chain (fips.pad m) i fips.start)
 
 abbrev μ-loop : tie.MeasureT-loop
-μ-loop p n r₀ i₀ r i = n - i
+μ-loop m tail n s₀ i₀ s i = n - i
 
 loop-holds : tie.Need-loop-holds Inv-loop μ-loop
-loop-holds c = (omega arith, chain-none _ _)
+loop-holds c = (omega arith, c .start .ensures ∙ chain-none _ _)
+
+padded-block-requires : tie.Need-padded-block-requires Inv-loop μ-loop
+padded-block-requires c κs = (c .before .before .before .before .before .pre .0, omega (arith, c .before .before .before .before .before .pre .1))
 
 loop-again : tie.Need-loop-again Inv-loop μ-loop
 loop-again c =
-    let l = c .before .before .before in
-    let a = l .before .before .args in
-    (omega arith, c .compress .ensures ∙ ap₂ fips.compress (l .loop .inv .1) (c .before .block .ensures) ∙ sym (chain-more (a .p .now) (l .loop .i) (a .s)))
+    let l = c .before .before .before .before in
+    let m = c .before .before .before .before .before .before .before .before .args .m .now in
+    (omega arith, c .compress .ensures ∙ ap₂ fips.compress (l .loop .inv .1) (c .before .before .padded-block .ensures) ∙ sym (chain-more (fips.pad m) (l .loop .i) fips.start))
 
 returns : tie.Need-returns Inv-loop μ-loop
 returns c =
-    let e : c .before .loop .i ≡ c .before .before .before .args .n = omega arith in
+    let e : c .before .loop .i ≡ c .before .before .before .before .before .args .n = omega arith in
     rw e at (c .before .loop .inv .1)
 
 pub chain-spec : {M : Type 1} → statement M
@@ -34,9 +37,9 @@ chain-spec =
     (tie.spec
     Inv-loop
     μ-loop
+    (λ c κs. search needs)
     loop-holds
-    (λ c. omega arith)
-    (λ c κs. omega arith)
+    padded-block-requires
     (λ c κs. search needs)
     (λ c. omega arith)
     (λ c. omega arith)

@@ -1,4 +1,5 @@
 -- The rest of the message, its one bit and its length are laid over zeros; `ending-law` says that this ends the padded message.
+use mathlib.Core.Path.{_∙_}
 use native.Mathlib.Omega.{arith}
 use borrow.Author.Needs.{needs}
 use lib.ListN.{length-set}
@@ -6,19 +7,16 @@ use Rattle.sha1.proofs.Padded.{ending-law}
 use Rattle.sha1.proofs.padding.ending.Statement.{statement}
 use Rattle.sha1.proofs.padding.ending.Tie as tie
 
-mul-put-be32 : tie.Need-mul-put-be32
-mul-put-be32 c = omega (arith, c .ending-blocks .ensures)
-
-sub-put-be32 : tie.Need-sub-put-be32
-sub-put-be32 c = omega (arith, c .ending-blocks .ensures)
-
 put-be32-requires : tie.Need-put-be32-requires
-put-be32-requires c κs = rw (length-set, c .before .before .before .copy .kept .1 .1 .1 .0) (omega (arith, c .ending-blocks .ensures))
+put-be32-requires c κs = rw (length-set, c .before .before .copy .kept .1 .1 .1 .0) (omega arith)
 
 returns : tie.Need-returns
 returns c =
-    let m = c .before .before .before .before .before .before .before .before .args .m .now in
-    ending-law m (c .before .before .before .before .before .copy .last .1 .1 .1 .0) _ (omega arith) (c .before .before .before .before .before .copy .ensures) (rw (c .before .before .ending-blocks .ensures) at (c .before .put-be32 .ensures))
+    let m = c .before .before .before .before .before .before .before .args .m .now in
+    record {
+      long = c .before .put-be32 .kept .0 ∙ rw length-set (c .before .before .before .before .copy .kept .1 .1 .1 .0);
+      begins = ending-law m (c .before .before .before .before .copy .last .1 .1 .1 .0) _ (omega arith) (c .before .before .before .before .copy .ensures) (c .before .put-be32 .ensures);
+    }
 
 pub ending-spec : {M : Type 1} → statement M
 ending-spec =
@@ -29,9 +27,10 @@ ending-spec =
     (λ c κs. search needs)
     (λ c. search needs)
     (λ c. search needs)
-    (λ c κs. search needs)
-    mul-put-be32
-    sub-put-be32
+    (λ c. search needs)
+    (λ c. search needs)
+    (λ c. search needs)
+    (λ c. search needs)
     (λ c. search needs)
     (λ c. search needs)
     put-be32-requires

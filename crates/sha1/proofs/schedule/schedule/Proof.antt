@@ -21,8 +21,8 @@ loop-holds c = (omega arith, (refl, refl))
 
 loop-again : tie.Need-loop-again Inv-loop μ-loop
 loop-again c =
-    let l = c .before in
-    let m = l .before .args .t1 in
+    let l = c .before .before in
+    let m = l .before .args .m .now in
     (omega arith, (rw length-set (l .loop .inv .1 .0), words-more m (l .loop .w) (l .loop .t) _ (omega arith) (l .loop .inv .1 .1) (word-early m (take (l .loop .t) (l .loop .w)) (l .loop .t) (omega arith))))
 
 extend-requires-2 : tie.Need-extend-requires-2 Inv-loop μ-loop
@@ -37,7 +37,7 @@ extend-requires-4 c κs = (omega arith, (omega arith, (omega arith, c .before .e
 returns : tie.Need-returns Inv-loop μ-loop
 returns c =
     let l = c .before .before .before .before .before .before .before .before .before in
-    let m = c .before .before .before .before .before .before .before .before .before .before .args .t1 in
+    let m = c .before .before .before .before .before .before .before .before .before .before .args .m .now in
     let e : l .loop .t ≡ 16 = omega arith in
     let all = c .extend4 .ensures .1 m (c .before .before .extend3 .ensures .1 m (c .before .before .before .before .extend2 .ensures .1 m (c .before .before .before .before .before .before .extend .ensures .1 m (rw e at (l .loop .inv .1 .1))))) in
     sym (take-all 80 _ (omega (arith, c .extend4 .ensures .0))) ∙ all

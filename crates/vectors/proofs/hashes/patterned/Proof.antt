@@ -2,8 +2,8 @@
 use mathlib.Core.Path.{sym}
 use borrow.Author.Needs.{needs}
 use lib.Seq.{length-take-le}
-use Rattle.vectors.proofs.patterned.Statement.{statement}
-use Rattle.vectors.proofs.patterned.Tie as tie
+use Rattle.vectors.proofs.hashes.patterned.Statement.{statement}
+use Rattle.vectors.proofs.hashes.patterned.Tie as tie
 
 slice-aggregate-hashed : tie.Need-slice-aggregate-hashed
 slice-aggregate-hashed c = let s = c .before .before .before .before .before in sym (length-take-le (s .args .n) (s .args .s .now) (s .pre))

@@ -1,0 +1,45 @@
+// The bare block loops: a buffer's blocks one after the other, in place.
+ghost use mathlib.Core.Path.{_≡_};
+ghost use Prim.Native.Nat.{_+_, _<_, _≤_};
+ghost use lib.ListN.{length};
+ghost use Rattle.aes.specs.Tables.{sbox, invSbox};
+
+// The block at `at`.
+fn block(s: &[u8], at: usize) -> [u8; 16]
+    requires { ⌜ at + 16 ≤ length (now s) ⌝ }
+{
+    let mut b = [0u8; 16];
+    octets::copy(s, at, 16, &mut b, 0);
+    b
+}
+
+// A block laid at `at`.
+fn put(s: &mut [u8], at: usize, b: [u8; 16])
+    requires { ⌜ at + 16 ≤ length (now s) ⌝ }
+{
+    octets::copy(&b, 0, 16, s, at);
+}
+
+pub fn encrypt(w: &[u8; 240], rounds: usize, table: &[u8; 256], s: &mut [u8])
+    requires { ⌜ (0 < rounds) × (rounds ≤ 14) × (length (now w) ≡ 240) × (now table ≡ sbox) ⌝ }
+{
+    let n = s.len() / 16;
+    let mut i = 0;
+    while i < n {
+        let b = aes::rounds::cipher(w, rounds, table, block(s, 16 * i));
+        put(s, 16 * i, b);
+        i += 1;
+    }
+}
+
+pub fn decrypt(w: &[u8; 240], rounds: usize, table: &[u8; 256], s: &mut [u8])
+    requires { ⌜ (0 < rounds) × (rounds ≤ 14) × (length (now w) ≡ 240) × (now table ≡ invSbox) ⌝ }
+{
+    let n = s.len() / 16;
+    let mut i = 0;
+    while i < n {
+        let b = aes::rounds::inv_cipher(w, rounds, table, block(s, 16 * i));
+        put(s, 16 * i, b);
+        i += 1;
+    }
+}
