@@ -26,7 +26,7 @@ use Rattle.aes.proofs.Undo.{invCipher-cipher, cipher-invCipher, length-
 -- ---- one of three numbers
 
 module _ (n a b c : ℕ) where
-  abbrev Listed : Type 0
+  abbrev pub Listed : Type 0
   Listed = (n ≡ a) ⊎ ((n ≡ b) ⊎ (n ≡ c))
 
   pub listed : Listed → (eqb n a || eqb n b || eqb n c) ≡ true
@@ -99,12 +99,24 @@ unfolding keyOf
 keyOf-front w z r h =
     rw (drop-append-le (16 * r) w z (omega arith)) (take-append-le 16 (drop (16 * r) w) z (simp length-drop (omega arith)))
 
+-- ---- both directions: a block by the cipher f
+
+-- under an expanded key
+abbrev by : ((ℕ → List ℕ) → ℕ → List ℕ → List ℕ) → List ℕ → Expanded → Reply
+by f s e = cond (roundCount (e .rounds)) (done (f (keyOf (e .bytes)) (e .rounds) s)) refused
+
+module _ (f : (ℕ → List ℕ) → ℕ → List ℕ → List ℕ) (s : List ℕ) (e : Expanded) where
+  pub answered : (r : List ℕ) → Listed (e .rounds) 10 12 14 → r ≡ f (keyOf (e .bytes)) (e .rounds) s → done r ≡ by f s e
+  unfolding roundCount
+  answered r l q = rw (q, listed (e .rounds) 10 12 14 l)
+
+  pub unanswered : (r : Reply) → (Listed (e .rounds) 10 12 14 → ⊥) → r ≡ refused → r ≡ by f s e
+  unfolding roundCount
+  unanswered r l q = rw (q, unlisted (e .rounds) 10 12 14 l)
+
 module _ (f : (ℕ → List ℕ) → ℕ → List ℕ → List ℕ)
     (same : (key key′ : ℕ → List ℕ) (n : ℕ) (s : List ℕ) → ((r : ℕ) → r ≤ n → key r ≡ key′ r) → f key n s ≡ f key′ n s) (k s : List ℕ) where
-  -- a block by f, under an expanded key and under a key
-  abbrev by : Expanded → Reply
-  by e = cond (roundCount (e .rounds)) (done (f (keyOf (e .bytes)) (e .rounds) s)) refused
-
+  -- a block by f under a key
   abbrev given : List ℕ
   given = f (keyOf (schedule (wordsOf k) k)) (roundsFor (wordsOf k)) s
 
@@ -118,18 +130,18 @@ module _ (f : (ℕ → List ℕ) → ℕ → List ℕ → List ℕ)
   by-expanded : keyLength (length k) ≡ true → f (keyOf (expanded k .bytes)) (expanded k .rounds) s ≡ given
   by-expanded t = ap (λ (e : Expanded). f (keyOf (e .bytes)) (e .rounds) s) (expanded-fit k t) ∙ under (fits k t)
 
-  by-fit : keyLength (length k) ≡ true → by (expanded k) ≡ done given
+  by-fit : keyLength (length k) ≡ true → by f s (expanded k) ≡ done given
   by-fit t =
-      ap by (expanded-fit k t)
+      ap (by f s) (expanded-fit k t)
       ∙ ap (λ (b : Bool). cond b (done (f (keyOf (schedule (wordsOf k) k ++ tail k)) (roundsFor (wordsOf k)) s)) refused) (fits k t .counted)
       ∙ ap done (under (fits k t))
 
-  by-other : keyLength (length k) ≡ false → by (expanded k) ≡ refused
+  by-other : keyLength (length k) ≡ false → by f s (expanded k) ≡ refused
   unfolding roundCount
-  by-other t = ap by (expanded-other k t)
+  by-other t = ap (by f s) (expanded-other k t)
 
   -- a key that is expanded first
-  by-key : by (expanded k) ≡ cond (keyLength (length k)) (done given) refused
+  by-key : by f s (expanded k) ≡ cond (keyLength (length k)) (done given) refused
   by-key = ⊎-elim (λ t. rw t (by-fit t)) (λ t. rw t (by-other t)) (either (keyLength (length k)))
 
 pub encrypted-expanded : (k s : List ℕ) → encryptedBy (expanded k) s ≡ encrypted k s
@@ -153,6 +165,12 @@ module _ (k : List ℕ) where
   length-expanded =
       ⊎-elim (λ t. ap (λ (e : Expanded). length (e .bytes)) (expanded-fit k t) ∙ long-fit (fits k t))
       (λ t. ap (λ (e : Expanded). length (e .bytes)) (expanded-other k t)) (either (keyLength (length k)))
+
+  pub rounds-within : keyLength (length k) ≡ true → (0 < expanded k .rounds) × (expanded k .rounds ≤ 14)
+  unfolding roundsFor
+  rounds-within t =
+      let h = fits k t in
+      subst⁻¹ (λ (e : Expanded). (0 < e .rounds) × (e .rounds ≤ 14)) (expanded-fit k t) (omega (arith, h .few), omega (arith, h .most))
 
   pub expanded-bytes : Bytes k → Bytes (expanded k .bytes)
   expanded-bytes b =

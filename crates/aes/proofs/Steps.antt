@@ -4,11 +4,11 @@ use mathlib.Core.List.{List, [], _∷_, _++_}
 use Prim.Native.Nat.{ℕ, zero, suc, _+_, _-_, _*_, _≤_, _<_}
 use native.Mathlib.Numerals.{add-one}
 use native.Mathlib.Omega.{arith}
-use lib.ListN.{length, getD, take, drop, set, length-drop}
-use lib.Seq.{take-suc, take-all, take-suc-set, getD-take, getD-drop, length-take-le}
+use lib.ListN.{length, getD, take, drop, set, length-drop, length-set}
+use lib.Seq.{take-suc, take-all, take-suc-set, getD-take, getD-drop, length-take-le, ext-getD}
 use Rattle.aes.specs.Field.{xor}
 use Rattle.aes.specs.Cipher.{tabulate, addRoundKey, keyOf, round, invRound, rounds, invRounds}
-use Rattle.aes.proofs.States.{opened, getD-addRoundKey}
+use Rattle.aes.proofs.States.{opened, length-addRoundKey, getD-addRoundKey}
 
 -- ---- a state in four columns
 
@@ -22,25 +22,47 @@ pub by-columns : (f : List ℕ → List ℕ) (s r a b c d : List ℕ) → length
     → r ≡ f s
 by-columns f s r a b c d h e ea eb ec ed whole = e ∙ rw (ea, eb, ec, ed) (whole ∙ ap f (opened 16 s h))
 
--- ---- a list filled from the front
+-- ---- sixteen bytes made one by one
 
--- one element more agrees with what is wanted
-pub fill-more : (goal t : List ℕ) (i v : ℕ) → i < length t → i < length goal → take i t ≡ take i goal → v ≡ getD goal i 0
-    → take (i + 1) (set t i v) ≡ take (i + 1) goal
-fill-more goal t i v ht hg e q = rw (add-one, take-suc-set t i v ht, take-suc goal i 0 hg, e, q)
+getD-tabulate : (n : ℕ) (f : ℕ → ℕ) (i : ℕ) → i < n → getD (tabulate n f) i 0 ≡ f i
+getD-tabulate zero f i h = absurd (omega arith)
+getD-tabulate (suc n) f zero h = refl
+getD-tabulate (suc n) f (suc i) h = getD-tabulate n (λ j. f (suc j)) i (omega arith)
 
--- filled to its end
-pub filled : (goal t : List ℕ) (i : ℕ) → length t ≤ i → length goal ≤ i → take i t ≡ take i goal → t ≡ goal
-filled goal t i ht hg e = sym (take-all i t ht) ∙ e ∙ take-all i goal hg
+-- the first i places hold what f gives there
+pub record Filled (f : ℕ → ℕ) (i : ℕ) (t : List ℕ) : Type 0 where
+  pub few : i ≤ 16
+  pub size : length t ≡ 16
+  pub front : take i t ≡ take i (tabulate 16 f)
 
--- byte i of the sum of a state and round key n
-pub getD-sum : (s w : List ℕ) (n i : ℕ) → length s ≡ 16 → i < 16 → 16 * n + 16 ≤ length w
-    → getD (addRoundKey s (keyOf w n)) i 0 ≡ xor (getD s i 0) (getD w (16 * n + i) 0)
+pub filled-none : (f : ℕ → ℕ) (t : List ℕ) → length t ≡ 16 → Filled f 0 t
+filled-none f t h = record { few = omega arith; size = h; front = refl }
+
+-- a turn of a loop
+pub filled-more : (f : ℕ → ℕ) (i : ℕ) (t : List ℕ) (v : ℕ) → i < 16 → Filled f i t → v ≡ f i → Filled f (i + 1) (set t i v)
+filled-more f i t v h done e =
+    let old = done .size in
+    let new : v ≡ getD (tabulate 16 f) i 0 = e ∙ sym (getD-tabulate 16 f i h) in
+    record {
+      few = omega arith;
+      size = length-set t i v ∙ old;
+      front = rw (add-one, take-suc-set t i v (omega arith), take-suc (tabulate 16 f) i 0 h, done .front, new);
+    }
+
+pub filled-all : (f : ℕ → ℕ) (i : ℕ) (t : List ℕ) → 16 ≤ i → Filled f i t → t ≡ tabulate 16 f
+filled-all f i t h done = let old = done .size in sym (take-all i t (omega arith)) ∙ done .front ∙ take-all i (tabulate 16 f) h
+
+-- AddRoundKey byte by byte
+pub added : (s w : List ℕ) (n : ℕ) → length s ≡ 16 → 16 * n + 16 ≤ length w
+    → tabulate 16 (λ i. xor (getD s i 0) (getD w (16 * n + i) 0)) ≡ addRoundKey s (keyOf w n)
 unfolding keyOf
-getD-sum s w n i hs hi hw =
-    let l : length (take 16 (drop (16 * n) w)) ≡ 16 = length-take-le 16 (drop (16 * n) w) (simp length-drop (omega arith)) in
-    getD-addRoundKey s (take 16 (drop (16 * n) w)) i (omega arith) (omega arith)
-    ∙ ap (xor (getD s i 0)) (getD-take 16 (drop (16 * n) w) i 0 hi ∙ getD-drop (16 * n) w i 0)
+added s w n hs hw =
+    let k = take 16 (drop (16 * n) w) in
+    let long : length k ≡ 16 = length-take-le 16 (drop (16 * n) w) (simp length-drop (omega arith)) in
+    ext-getD 0 (tabulate 16 (λ i. xor (getD s i 0) (getD w (16 * n + i) 0))) (addRoundKey s k) (sym (length-addRoundKey s k ∙ hs))
+    (λ i h. getD-tabulate 16 (λ j. xor (getD s j 0) (getD w (16 * n + j) 0)) i h
+    ∙ ap (xor (getD s i 0)) (sym (getD-take 16 (drop (16 * n) w) i 0 h ∙ getD-drop (16 * n) w i 0))
+    ∙ sym (getD-addRoundKey s k i (omega arith) (omega arith)))
 
 -- ---- a round more, and a round less to go
 

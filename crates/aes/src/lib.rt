@@ -53,6 +53,26 @@ pub fn expand(key: &[u8]) -> Expanded
     }
 }
 
+// What a block operation answers with a block.
+fn accepted(block: [u8; 16]) -> Reply
+    ensures { λ r. ⌜ r ≡ Aes.done block ⌝ }
+{
+    Reply {
+        answer: answers::DONE,
+        block: block,
+    }
+}
+
+// What a refused block operation answers.
+fn refusal() -> Reply
+    ensures { λ r. ⌜ r ≡ Aes.refused ⌝ }
+{
+    Reply {
+        answer: answers::KEY_SIZE,
+        block: [0u8; 16],
+    }
+}
+
 // A block under an expanded key; refused where the number of rounds is not 10, 12 or 14.
 pub fn encrypt_block(key: Expanded, block: [u8; 16]) -> Reply
     ensures { λ r. ⌜ r ≡ Aes.encryptedBy key block ⌝ }
@@ -62,15 +82,9 @@ pub fn encrypt_block(key: Expanded, block: [u8; 16]) -> Reply
         10 | 12 | 14 => {
             let w = key.bytes;
             let table = tables::SBOX;
-            Reply {
-                answer: answers::DONE,
-                block: rounds::cipher(&w, rounds, &table, block),
-            }
+            accepted(rounds::cipher(&w, rounds, &table, block))
         }
-        _ => Reply {
-            answer: answers::KEY_SIZE,
-            block: [0u8; 16],
-        },
+        _ => refusal(),
     }
 }
 
@@ -83,15 +97,9 @@ pub fn decrypt_block(key: Expanded, block: [u8; 16]) -> Reply
         10 | 12 | 14 => {
             let w = key.bytes;
             let table = tables::INV_SBOX;
-            Reply {
-                answer: answers::DONE,
-                block: rounds::inv_cipher(&w, rounds, &table, block),
-            }
+            accepted(rounds::inv_cipher(&w, rounds, &table, block))
         }
-        _ => Reply {
-            answer: answers::KEY_SIZE,
-            block: [0u8; 16],
-        },
+        _ => refusal(),
     }
 }
 

@@ -10,7 +10,7 @@ use super::field::by_11;
 use super::field::by_13;
 use super::field::by_14;
 use super::field::double;
-use super::tables::sub_word;
+use super::tables::look;
 
 // Four columns, one after the other.
 fn joined(a: [u8; 4], b: [u8; 4], c: [u8; 4], d: [u8; 4]) -> [u8; 16]
@@ -41,12 +41,13 @@ fn sub_bytes(table: &[u8; 256], s: [u8; 16]) -> [u8; 16]
     requires { ⌜ length (now table) ≡ 256 ⌝ }
     ensures { λ r. ⌜ r ≡ map (Tables.look (now (table .entry))) s ⌝ }
 {
-    joined(
-        sub_word(table, [s[0], s[1], s[2], s[3]]),
-        sub_word(table, [s[4], s[5], s[6], s[7]]),
-        sub_word(table, [s[8], s[9], s[10], s[11]]),
-        sub_word(table, [s[12], s[13], s[14], s[15]]),
-    )
+    let mut t = [0u8; 16];
+    let mut i = 0;
+    while i < 16 {
+        t[i] = look(table, s[i]);
+        i += 1;
+    }
+    t
 }
 
 // ShiftRows: row r moves left by r columns.
@@ -122,17 +123,6 @@ fn mix_column(a: u8, b: u8, c: u8, d: u8) -> [u8; 4]
     ]
 }
 
-fn inv_mix_column(a: u8, b: u8, c: u8, d: u8) -> [u8; 4]
-    ensures { λ r. ⌜ r ≡ Cipher.invMixColumns (a ∷ b ∷ c ∷ d ∷ []) ⌝ }
-{
-    [
-        inv_mix_row(a, b, c, d),
-        inv_mix_row(b, c, d, a),
-        inv_mix_row(c, d, a, b),
-        inv_mix_row(d, a, b, c),
-    ]
-}
-
 // MixColumns.
 fn mix_columns(s: [u8; 16]) -> [u8; 16]
     ensures { λ r. ⌜ r ≡ Cipher.mixColumns s ⌝ }
@@ -145,16 +135,23 @@ fn mix_columns(s: [u8; 16]) -> [u8; 16]
     )
 }
 
-// InvMixColumns.
+// InvMixColumns: byte i by the matrix row that begins at it, down its column and round to the top.
 fn inv_mix_columns(s: [u8; 16]) -> [u8; 16]
     ensures { λ r. ⌜ r ≡ Cipher.invMixColumns s ⌝ }
 {
-    joined(
-        inv_mix_column(s[0], s[1], s[2], s[3]),
-        inv_mix_column(s[4], s[5], s[6], s[7]),
-        inv_mix_column(s[8], s[9], s[10], s[11]),
-        inv_mix_column(s[12], s[13], s[14], s[15]),
-    )
+    let mut t = [0u8; 16];
+    let mut i = 0;
+    while i < 16 {
+        let top = i / 4 * 4;
+        t[i] = inv_mix_row(
+            s[i],
+            s[top + (i + 1) % 4],
+            s[top + (i + 2) % 4],
+            s[top + (i + 3) % 4],
+        );
+        i += 1;
+    }
+    t
 }
 
 // AddRoundKey with round key n.

@@ -1,6 +1,6 @@
 -- A key of another length expands to no rounds, which the block operation refuses.
-use borrow.Author.Needs.{needs}
 use Rattle.aes.proofs.Keys.{decrypted-expanded}
+use borrow.Author.Needs.{needs}
 use Rattle.aes.proofs.decrypt.Statement.{statement}
 use Rattle.aes.proofs.decrypt.Tie as tie
 

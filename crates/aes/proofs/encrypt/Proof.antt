@@ -1,6 +1,6 @@
 -- A key of another length expands to no rounds, which the block operation refuses.
-use borrow.Author.Needs.{needs}
 use Rattle.aes.proofs.Keys.{encrypted-expanded}
+use borrow.Author.Needs.{needs}
 use Rattle.aes.proofs.encrypt.Statement.{statement}
 use Rattle.aes.proofs.encrypt.Tie as tie
 

@@ -1,7 +1,7 @@
 -- 11 = 8 + 2 + 1, as polynomials.
-use borrow.Author.Needs.{needs}
 use Rattle.aes.specs.Field.{xor}
 use Rattle.aes.proofs.Columns.{times-11}
+use borrow.Author.Needs.{needs}
 use Rattle.aes.proofs.field.by_11.Statement.{statement}
 use Rattle.aes.proofs.field.by_11.Tie as tie
 

@@ -1,7 +1,7 @@
 -- 13 = 8 + 4 + 1, as polynomials.
-use borrow.Author.Needs.{needs}
 use Rattle.aes.specs.Field.{xor}
 use Rattle.aes.proofs.Columns.{times-13}
+use borrow.Author.Needs.{needs}
 use Rattle.aes.proofs.field.by_13.Statement.{statement}
 use Rattle.aes.proofs.field.by_13.Tie as tie
 

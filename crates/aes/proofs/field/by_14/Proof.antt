@@ -1,7 +1,7 @@
 -- 14 = 8 + 4 + 2, as polynomials.
-use borrow.Author.Needs.{needs}
 use Rattle.aes.specs.Field.{xor}
 use Rattle.aes.proofs.Columns.{times-14}
+use borrow.Author.Needs.{needs}
 use Rattle.aes.proofs.field.by_14.Statement.{statement}
 use Rattle.aes.proofs.field.by_14.Tie as tie
 

@@ -1,7 +1,7 @@
 -- 9 = 8 + 1, as polynomials.
-use borrow.Author.Needs.{needs}
 use Rattle.aes.specs.Field.{xor}
 use Rattle.aes.proofs.Columns.{times-9}
+use borrow.Author.Needs.{needs}
 use Rattle.aes.proofs.field.by_9.Statement.{statement}
 use Rattle.aes.proofs.field.by_9.Tie as tie
 

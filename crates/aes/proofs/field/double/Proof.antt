@@ -2,9 +2,9 @@
 use mathlib.Core.Path.{ap}
 use Prim.Native.Nat.{_*_, _%_}
 use native.Mathlib.Omega.{arith}
-use borrow.Author.Needs.{needs}
 use lib.Bits.{bitXor}
 use Rattle.aes.specs.Field.{xor, double}
+use borrow.Author.Needs.{needs}
 use Rattle.aes.proofs.field.double.Statement.{statement}
 use Rattle.aes.proofs.field.double.Tie as tie
 

@@ -1,45 +1,40 @@
 -- Each turn adds one byte more of the round key.
-use mathlib.Core.Path.{_∙_, _≡_, refl, sym}
-use Prim.Native.Nat.{_-_, _≤_}
+use mathlib.Core.Path.{_≡_, refl, _∙_}
+use mathlib.Core.List.{List}
+use Prim.Native.Nat.{ℕ, _+_, _-_, _*_}
 use native.Mathlib.Omega.{arith}
 use borrow.Author.Needs.{needs}
-use lib.ListN.{length, take, length-set}
+use lib.ListN.{length, getD}
 use Rattle.aes.specs.Field.{xor}
-use Rattle.aes.specs.Cipher.{addRoundKey, keyOf}
-use Rattle.aes.proofs.States.{length-addRoundKey}
-use Rattle.aes.proofs.Steps.{fill-more, filled, getD-sum}
+use Rattle.aes.proofs.Steps.{Filled, filled-none, filled-more, filled-all, added}
 use Rattle.aes.proofs.rounds.add_round_key.Statement.{statement}
 use Rattle.aes.proofs.rounds.add_round_key.Tie as tie
 
+abbrev byte : List ℕ → ℕ → List ℕ → ℕ → ℕ
+byte w n s i = xor (getD s i 0) (getD w (16 * n + i) 0)
+
 abbrev Inv-loop : tie.InvT-loop
-Inv-loop w n s t₀ i₀ t i = (i ≤ 16) × (length t ≡ 16) × (take i t ≡ take i (addRoundKey s (keyOf w n)))
+Inv-loop w n s t₀ i₀ t i = Filled (byte w n s) i t
 
 abbrev μ-loop : tie.MeasureT-loop
 μ-loop w n s t₀ i₀ t i = 16 - i
 
 loop-holds : tie.Need-loop-holds Inv-loop μ-loop
-loop-holds c = (omega arith, refl, refl)
+loop-holds c = filled-none _ _ refl
 
 loop-again : tie.Need-loop-again Inv-loop μ-loop
 unfolding xor
 loop-again c =
-    let at = c .before .before .loop in
     let a = c .before .before .before .args in
-    let size : length (a .t3) ≡ 16 = search needs in
-    let whole : length (addRoundKey (a .t3) (keyOf (a .w .now) (a .n))) ≡ 16 = length-addRoundKey (a .t3) (keyOf (a .w .now) (a .n)) ∙ size in (
-      omega arith,
-      simp length-set (at .inv .1),
-      fill-more (addRoundKey (a .t3) (keyOf (a .w .now) (a .n))) (at .t) (at .i) _ (omega arith) (omega arith) (at .inv .2)
-          (sym (getD-sum (a .t3) (a .w .now) (a .n) (at .i) size (omega arith) (omega arith))),
-    )
+    let at = c .before .before .loop in
+    filled-more (byte (a .w .now) (a .n) (a .t3)) (at .i) (at .t) _ (c .before .loop-test .taken) (at .inv) refl
 
 returns : tie.Need-returns Inv-loop μ-loop
 returns c =
-    let at = c .before .loop in
     let a = c .before .before .args in
     let size : length (a .t3) ≡ 16 = search needs in
-    let whole : length (addRoundKey (a .t3) (keyOf (a .w .now) (a .n))) ≡ 16 = length-addRoundKey (a .t3) (keyOf (a .w .now) (a .n)) ∙ size in
-    filled (addRoundKey (a .t3) (keyOf (a .w .now) (a .n))) (at .t) (at .i) (omega arith) (omega arith) (at .inv .2)
+    filled-all (byte (a .w .now) (a .n) (a .t3)) (c .before .loop .i) (c .before .loop .t) (c .loop-test .left) (c .before .loop .inv)
+    ∙ added (a .t3) (a .w .now) (a .n) size (omega arith)
 
 pub add-round-key-spec : {M : Type 1} → statement M
 add-round-key-spec =

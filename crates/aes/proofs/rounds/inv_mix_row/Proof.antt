@@ -1,7 +1,7 @@
 -- The four products, added.
-use borrow.Author.Needs.{needs}
 use Rattle.aes.specs.Field.{xor}
 use Rattle.aes.specs.Cipher.{row}
+use borrow.Author.Needs.{needs}
 use Rattle.aes.proofs.rounds.inv_mix_row.Statement.{statement}
 use Rattle.aes.proofs.rounds.inv_mix_row.Tie as tie
 

@@ -1,7 +1,7 @@
 -- The sixteen places, written out.
 use mathlib.Core.Path.{refl}
-use borrow.Author.Needs.{needs}
 use Rattle.aes.specs.Cipher.{shift, invShiftRows}
+use borrow.Author.Needs.{needs}
 use Rattle.aes.proofs.rounds.inv_shift_rows.Statement.{statement}
 use Rattle.aes.proofs.rounds.inv_shift_rows.Tie as tie
 

@@ -1,9 +1,9 @@
 -- Each column is its four bytes.
 use mathlib.Core.List.{_++_}
 use mathlib.Core.Path.{_≡_, ap₂}
-use borrow.Author.Needs.{needs}
 use lib.ListN.{length}
 use Rattle.aes.proofs.States.{opened}
+use borrow.Author.Needs.{needs}
 use Rattle.aes.proofs.rounds.joined.Statement.{statement}
 use Rattle.aes.proofs.rounds.joined.Tie as tie
 

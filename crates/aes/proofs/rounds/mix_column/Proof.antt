@@ -1,6 +1,6 @@
 -- Each row is the first, begun at another byte.
-use borrow.Author.Needs.{needs}
 use Rattle.aes.specs.Cipher.{columns, mixColumns}
+use borrow.Author.Needs.{needs}
 use Rattle.aes.proofs.rounds.mix_column.Statement.{statement}
 use Rattle.aes.proofs.rounds.mix_column.Tie as tie
 

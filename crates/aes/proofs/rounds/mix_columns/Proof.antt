@@ -1,9 +1,9 @@
 -- MixColumns works column by column.
 use mathlib.Core.Path.{_≡_, refl}
-use borrow.Author.Needs.{needs}
 use lib.ListN.{length}
 use Rattle.aes.specs.Cipher.{columns, mixColumns}
 use Rattle.aes.proofs.Steps.{by-columns}
+use borrow.Author.Needs.{needs}
 use Rattle.aes.proofs.rounds.mix_columns.Statement.{statement}
 use Rattle.aes.proofs.rounds.mix_columns.Tie as tie
 

@@ -1,7 +1,7 @@
 -- 2 a + 3 b is one doubling of a + b, and b.
-use borrow.Author.Needs.{needs}
 use Rattle.aes.specs.Field.{xor}
 use Rattle.aes.proofs.Columns.{mix-row}
+use borrow.Author.Needs.{needs}
 use Rattle.aes.proofs.rounds.mix_row.Statement.{statement}
 use Rattle.aes.proofs.rounds.mix_row.Tie as tie
 

@@ -1,9 +1,9 @@
 -- The four steps in the document's order.
 use mathlib.Core.Path.{ap, _∙_}
-use borrow.Author.Needs.{needs}
 use lib.ListN.{length}
 use Rattle.aes.specs.Cipher.{subBytes, round}
 use Rattle.aes.proofs.Entries.{length-sbox}
+use borrow.Author.Needs.{needs}
 use Rattle.aes.proofs.rounds.round.Statement.{statement}
 use Rattle.aes.proofs.rounds.round.Tie as tie
 

@@ -1,7 +1,7 @@
 -- The sixteen places, written out.
 use mathlib.Core.Path.{refl}
-use borrow.Author.Needs.{needs}
 use Rattle.aes.specs.Cipher.{shift, shiftRows}
+use borrow.Author.Needs.{needs}
 use Rattle.aes.proofs.rounds.shift_rows.Statement.{statement}
 use Rattle.aes.proofs.rounds.shift_rows.Tie as tie
 

@@ -1,9 +1,9 @@
 -- A byte is a place in the table, so what stands past the table does not matter.
 use mathlib.Core.Path.{sym, ap, _∙_}
 use native.Mathlib.Omega.{arith}
-use borrow.Author.Needs.{needs}
 use Rattle.aes.specs.Tables.{look}
 use Rattle.aes.proofs.Entries.{look-in}
+use borrow.Author.Needs.{needs}
 use Rattle.aes.proofs.tables.look.Statement.{statement}
 use Rattle.aes.proofs.tables.look.Tie as tie
 

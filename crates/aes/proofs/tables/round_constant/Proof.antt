@@ -1,7 +1,7 @@
 -- Places count from 0, rounds from 1.
 use mathlib.Core.Path.{refl}
-use borrow.Author.Needs.{needs}
 use Rattle.aes.specs.Tables.{roundConstant, roundConstants}
+use borrow.Author.Needs.{needs}
 use Rattle.aes.proofs.tables.round_constant.Statement.{statement}
 use Rattle.aes.proofs.tables.round_constant.Tie as tie
 

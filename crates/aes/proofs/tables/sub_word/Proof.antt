@@ -1,10 +1,10 @@
 -- The four entries are those at the word's four bytes.
 use mathlib.Core.Path.{_≡_, ap}
 use mathlib.Core.List.{map}
-use borrow.Author.Needs.{needs}
 use lib.ListN.{length}
 use Rattle.aes.specs.Tables.{look}
 use Rattle.aes.proofs.States.{opened}
+use borrow.Author.Needs.{needs}
 use Rattle.aes.proofs.tables.sub_word.Statement.{statement}
 use Rattle.aes.proofs.tables.sub_word.Tie as tie
 

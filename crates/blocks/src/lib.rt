@@ -1,0 +1,126 @@
+// A stream of 16-byte blocks under AES in ECB mode (000 section 7), out of one lent slice into another.
+//
+// The key comes expanded. It and the table are copied once a stream and lent to each block. A contract says which bytes of the
+// output are written and with what; the rest of it is as it was.
+ghost use mathlib.Core.Path.{_≡_};
+ghost use mathlib.Core.List.{_++_};
+ghost use Prim.Native.Nat.{_+_, _*_, _/_, _%_, _<_, _≤_, min};
+ghost use lib.ListN.{length, take, drop};
+ghost use lib.Seq.{paste};
+ghost use Rattle.aes.specs.Tables.{sbox, invSbox};
+ghost use Rattle.aes.specs.Cipher.{keyOf, cipher, invCipher};
+ghost use Rattle.blocks.specs.Blocks.{ecb, encrypting, decrypting};
+use aes::Expanded;
+use aes::rounds;
+use aes::tables;
+
+// The sixteen bytes of s at `at`.
+fn block(s: &[u8], at: usize) -> [u8; 16]
+    requires { ⌜ at + 16 ≤ length (now s) ⌝ }
+    ensures { λ r. ⌜ r ≡ take 16 (drop at (now (s .entry))) ⌝ }
+{
+    let mut b = [0u8; 16];
+    octets::copy(s, at, 16, &mut b, 0);
+    b
+}
+
+// The sixteen bytes at `at` of s then filling.
+fn filled_block(s: &[u8], filling: &[u8; 16], at: usize) -> [u8; 16]
+    requires { ⌜ (at ≤ length (now s)) × (length (now filling) ≡ 16) ⌝ }
+    ensures { λ r. ⌜ r ≡ take 16 (drop at (now (s .entry) ++ now (filling .entry))) ⌝ }
+{
+    let left = s.len() - at;
+    if 16 <= left {
+        return block(s, at);
+    }
+    let mut b = [0u8; 16];
+    octets::copy(s, at, left, &mut b, 0);
+    octets::copy(filling, 0, 16 - left, &mut b, left);
+    b
+}
+
+// How many bytes of a block are wanted where `left` are.
+fn part(left: usize) -> usize
+    ensures { λ r. ⌜ r ≡ min 16 left ⌝ }
+{
+    if left < 16 {
+        return left;
+    }
+    16
+}
+
+// `decrypt`, with the key and the table lent.
+fn decrypt_with(
+    w: &[u8; 240],
+    rounds: usize,
+    table: &[u8; 256],
+    src: &[u8],
+    size: usize,
+    out: &mut [u8],
+)
+    requires { ⌜ (0 < rounds) × (rounds ≤ 14) ⌝ }
+    requires { ⌜ (length (now w) ≡ 240) × (now table ≡ invSbox) ⌝ }
+    requires { ⌜ (size ≤ 16 * (length (now src) / 16)) × (size ≤ length (now out)) ⌝ }
+    ensures { λ _. ⌜ now (out .exit) ≡ paste (now (out .entry)) 0 (ecb (invCipher (keyOf (now (w .entry))) rounds) (now (src .entry))) size ⌝ }
+{
+    let mut i = 0;
+    while i < size {
+        let n = part(size - i);
+        let b = rounds::inv_cipher(w, rounds, table, block(src, i));
+        octets::copy(&b, 0, n, out, i);
+        i += n;
+    }
+}
+
+// The first `size` bytes of the blocks of src, decrypted, at the front of out. A last block of which less is wanted is cut.
+pub fn decrypt(key: Expanded, src: &[u8], size: usize, out: &mut [u8])
+    requires { ⌜ (0 < key .rounds) × (key .rounds ≤ 14) ⌝ }
+    requires { ⌜ (size ≤ 16 * (length (now src) / 16)) × (size ≤ length (now out)) ⌝ }
+    ensures { λ _. ⌜ now (out .exit) ≡ paste (now (out .entry)) 0 (ecb (decrypting key) (now (src .entry))) size ⌝ }
+{
+    let w = key.bytes;
+    let table = tables::INV_SBOX;
+    decrypt_with(&w, key.rounds, &table, src, size, out);
+}
+
+// `encrypt`, with the key, the table and the filling lent.
+fn encrypt_with(
+    w: &[u8; 240],
+    rounds: usize,
+    table: &[u8; 256],
+    contents: &[u8],
+    filling: &[u8; 16],
+    size: usize,
+    out: &mut [u8],
+    at: usize,
+)
+    requires { ⌜ (0 < rounds) × (rounds ≤ 14) ⌝ }
+    requires { ⌜ (length (now w) ≡ 240) × (now table ≡ sbox) × (length (now filling) ≡ 16) ⌝ }
+    requires { ⌜ (size % 16 ≡ 0) × (size ≤ length (now contents) + 16) × (at + size ≤ length (now out)) ⌝ }
+    ensures { λ _. ⌜ now (out .exit) ≡ paste (now (out .entry)) at (ecb (cipher (keyOf (now (w .entry))) rounds) (take size (now (contents .entry) ++ now (filling .entry)))) size ⌝ }
+{
+    let mut i = 0;
+    while i < size {
+        let b = rounds::cipher(w, rounds, table, filled_block(contents, filling, i));
+        octets::copy(&b, 0, 16, out, at + i);
+        i += 16;
+    }
+}
+
+// The first `size` bytes of contents then filling, whole blocks, encrypted at `at` of out.
+pub fn encrypt(
+    key: Expanded,
+    contents: &[u8],
+    filling: [u8; 16],
+    size: usize,
+    out: &mut [u8],
+    at: usize,
+)
+    requires { ⌜ (0 < key .rounds) × (key .rounds ≤ 14) ⌝ }
+    requires { ⌜ (size % 16 ≡ 0) × (size ≤ length (now contents) + 16) × (at + size ≤ length (now out)) ⌝ }
+    ensures { λ _. ⌜ now (out .exit) ≡ paste (now (out .entry)) at (ecb (encrypting key) (take size (now (contents .entry) ++ filling))) size ⌝ }
+{
+    let w = key.bytes;
+    let table = tables::SBOX;
+    encrypt_with(&w, key.rounds, &table, contents, &filling, size, out, at);
+}

@@ -1,0 +1,178 @@
+-- The ways out of opening and sealing, a law for each: a refusal by the verdict, a refusal by what is opened or sealed, and the
+-- content. Assumes nothing.
+use mathlib.Core.Path.{_≡_, refl, sym, ap, _∙_}
+use mathlib.Core.Logic.{inl, inr}
+use mathlib.Core.List.{List, _++_}
+use Prim.Native.Nat.{ℕ, zero, suc, _+_, _-_, _≤_}
+use native.Mathlib.Omega.{arith}
+use borrow.Author.Tests.{eq-eqb, eqb-true, eqb-false}
+use lib.Dec.{T, eqb}
+use lib.ListN.{length, take, drop, replicate, length-append}
+use lib.Seq.{length-take-le}
+use Rattle.octets.specs.Octets.{Bytes}
+use Rattle.octets.proofs.Below.{take-below}
+use Rattle.octets.proofs.Numbers.{length-leBytes}
+use Rattle.answers.specs.Rules.{Rule, firstOf, numbered}
+use Rattle.answers.proofs.Laws.{either, then, stop}
+use Rattle.password.specs.Verdict.{judged, verdictRules, passwordRules}
+use Rattle.descriptor.specs.Info.{infoRules}
+use Rattle.blocks.proofs.Aes.{length-encrypted, length-decrypted}
+use Rattle.sheet.specs.Frame.{Pair, pair, streamSize, streamOf, pairOf, Lawful}
+use Rattle.sheet.specs.Sheet.{limit, least, rounded, allowed, lengths, sealedSize, streamRules, packRules, openRules, sealRules, sheetKey, sealing, opening, packageOf, filledWith, sealingOf, left, reply, ended, opened, sealed}
+use Rattle.sheet.proofs.Lengths.{Openable, openable, Sealable, sealable, openable-blocks, least-below}
+
+-- ---- how a call ends
+
+pub ended-answer : (n size : ℕ) (content out : List ℕ) → ended n size content out .reply .answer ≡ n
+unfolding ended
+ended-answer zero size content out = refl
+ended-answer (suc n) size content out = refl
+
+pub ended-refused : (n size : ℕ) (content out : List ℕ) → (n ≡ 0 → ⊥) → ended n size content out ≡ left (reply n 0) out
+unfolding ended
+ended-refused zero size content out h = absurd (h refl)
+ended-refused (suc n) size content out h = refl
+
+-- two lists of rules end to end
+module _ (rs ts : List Rule) (size : ℕ) (content out : List ℕ) where
+  by-first : (firstOf rs ≡ 0 → ⊥) → ended (firstOf (rs ++ ts)) size content out ≡ left (reply (firstOf rs) 0) out
+  by-first h = rw (stop rs ts h) (ended-refused (firstOf rs) size content out h)
+
+  module _ (t : T (numbered rs)) (z : firstOf rs ≡ 0) where
+    by-second : (firstOf ts ≡ 0 → ⊥) → ended (firstOf (rs ++ ts)) size content out ≡ left (reply (firstOf ts) 0) out
+    by-second h = rw (then rs ts t z) (ended-refused (firstOf ts) size content out h)
+
+    by-none : firstOf ts ≡ 0 → ended (firstOf (rs ++ ts)) size content out ≡ left (reply 0 size) (content ++ replicate (length out - size) 0)
+    unfolding ended
+    by-none h = rw (then rs ts t z, h)
+
+-- where the whole answers 0 each of them does
+pub both-zero : (rs ts : List Rule) → T (numbered rs) → firstOf (rs ++ ts) ≡ 0 → (firstOf rs ≡ 0) × (firstOf ts ≡ 0)
+both-zero rs ts t h =
+    elim (either (eqb (firstOf rs) 0)) [
+      | inl e ↦ let z : firstOf rs ≡ 0 = eqb-true _ _ e in (z, sym (then rs ts t z) ∙ h)
+      | inr e ↦ let n : firstOf rs ≡ 0 → ⊥ = eqb-false _ _ e in absurd (n (sym (stop rs ts n) ∙ h))
+    ]
+
+-- ---- opening and sealing
+
+module _ (info password : List ℕ) where
+  pub verdict-numbered : T (numbered (verdictRules info password))
+  unfolding verdictRules infoRules passwordRules
+  verdict-numbered = tt
+
+  module _ (s out : List ℕ) where
+    pub open-numbered : T (numbered (openRules info password s (length out)))
+    unfolding openRules verdictRules infoRules passwordRules streamRules
+    open-numbered = tt
+
+    pub open-answer : opened info password s out .reply .answer ≡ firstOf (openRules info password s (length out))
+    unfolding opened
+    open-answer = ended-answer _ (streamSize s) (packageOf info password s) out
+
+    pub open-by-verdict : (judged info password ≡ 0 → ⊥) → opened info password s out ≡ left (reply (judged info password) 0) out
+    unfolding opened openRules judged
+    open-by-verdict = by-first (verdictRules info password) (streamRules s (length out)) (streamSize s) (packageOf info password s) out
+
+    module _ (v : judged info password ≡ 0) where
+      pub open-by-stream : (firstOf (streamRules s (length out)) ≡ 0 → ⊥)
+          → opened info password s out ≡ left (reply (firstOf (streamRules s (length out))) 0) out
+      unfolding opened openRules judged
+      open-by-stream = by-second (verdictRules info password) (streamRules s (length out)) (streamSize s) (packageOf info password s) out verdict-numbered v
+
+      pub open-done : firstOf (streamRules s (length out)) ≡ 0
+          → opened info password s out ≡ left (reply 0 (streamSize s)) (packageOf info password s ++ replicate (length out - streamSize s) 0)
+      unfolding opened openRules judged
+      open-done = by-none (verdictRules info password) (streamRules s (length out)) (streamSize s) (packageOf info password s) out verdict-numbered v
+
+    -- an accepted call: the verdict is 0, and the stream fits
+    pub open-zero : opened info password s out .reply .answer ≡ 0 → (judged info password ≡ 0) × Openable s (length out)
+    unfolding openRules judged
+    open-zero h =
+        let z = both-zero (verdictRules info password) (streamRules s (length out)) verdict-numbered (sym open-answer ∙ h) in
+        (z .0, openable s (length out) .0 (z .1))
+
+  module _ (pack given out : List ℕ) where
+    pub seal-numbered : T (numbered (sealRules info password (length pack) (length out)))
+    unfolding sealRules verdictRules infoRules passwordRules packRules
+    seal-numbered = tt
+
+    abbrev stream : List ℕ
+    stream = sealingOf info password (filledWith pack given)
+
+    pub seal-answer : sealed info password pack given out .reply .answer ≡ firstOf (sealRules info password (length pack) (length out))
+    unfolding sealed
+    seal-answer = ended-answer _ (sealedSize (length pack)) stream out
+
+    pub seal-by-verdict : (judged info password ≡ 0 → ⊥) → sealed info password pack given out ≡ left (reply (judged info password) 0) out
+    unfolding sealed sealRules judged
+    seal-by-verdict = by-first (verdictRules info password) (packRules (length pack) (length out)) (sealedSize (length pack)) stream out
+
+    module _ (v : judged info password ≡ 0) where
+      pub seal-by-pack : (firstOf (packRules (length pack) (length out)) ≡ 0 → ⊥)
+          → sealed info password pack given out ≡ left (reply (firstOf (packRules (length pack) (length out))) 0) out
+      unfolding sealed sealRules judged
+      seal-by-pack = by-second (verdictRules info password) (packRules (length pack) (length out)) (sealedSize (length pack)) stream out verdict-numbered v
+
+      pub seal-done : firstOf (packRules (length pack) (length out)) ≡ 0
+          → sealed info password pack given out
+          ≡ left (reply 0 (sealedSize (length pack))) (sealingOf info password (filledWith pack given) ++ replicate (length out - sealedSize (length pack)) 0)
+      unfolding sealed sealRules judged
+      seal-done = by-none (verdictRules info password) (packRules (length pack) (length out)) (sealedSize (length pack)) stream out verdict-numbered v
+
+    -- an accepted call: the verdict is 0, and the package fits
+    pub seal-zero : sealed info password pack given out .reply .answer ≡ 0 → (judged info password ≡ 0) × Sealable (length pack) (length out)
+    unfolding sealRules judged
+    seal-zero h =
+        let z = both-zero (verdictRules info password) (packRules (length pack) (length out)) verdict-numbered (sym seal-answer ∙ h) in
+        (z .0, sealable (length pack) (length out) .0 (z .1))
+
+    -- of the bytes given only the filling counts
+    pub seal-alike : (other : List ℕ) → take (least (length pack)) given ≡ take (least (length pack)) other
+        → sealed info password pack given out ≡ sealed info password pack other out
+    unfolding sealed filledWith
+    seal-alike other e = rw e
+
+  -- ---- how long the content is
+
+  pub package-held : (s : List ℕ) (room : ℕ) → Openable s room → streamSize s ≤ length (opening info password (drop 8 s))
+  unfolding opening
+  package-held s room k = omega (arith, length-decrypted (sheetKey info password) (drop 8 s), openable-blocks s room k)
+
+  pub length-package : (s : List ℕ) (room : ℕ) → Openable s room → length (packageOf info password s) ≡ streamSize s
+  unfolding packageOf pairOf
+  length-package s room k = length-take-le (streamSize s) (opening info password (drop 8 s)) (package-held s room k)
+
+  pub length-ciphertext : (p : Pair) → length (p .fill) ≡ least (length (p .pack)) → length (sealing info password (p .pack ++ p .fill)) ≡ rounded (length (p .pack))
+  unfolding sealing rounded least
+  length-ciphertext p f =
+      let n : length (p .pack ++ p .fill) ≡ length (p .pack) + length (p .fill) = length-append (p .pack) (p .fill) in
+      omega (arith, length-encrypted (sheetKey info password) (p .pack ++ p .fill))
+
+  pub length-sealing : (p : Pair) → length (p .fill) ≡ least (length (p .pack)) → length (sealingOf info password p) ≡ sealedSize (length (p .pack))
+  unfolding sealingOf streamOf sealedSize
+  length-sealing p f = simp (length-append, length-leBytes, length-ciphertext p f)
+
+-- ---- the filling
+
+module _ (pack given : List ℕ) (h : length given ≡ 16) where
+  -- sixteen bytes are enough
+  pub length-filling : length (filledWith pack given .fill) ≡ least (length pack)
+  unfolding filledWith
+  length-filling = length-take-le (least (length pack)) given (omega (arith, least-below (length pack)))
+
+  -- what a call seals is a lawful pair
+  pub filled-lawful : Bytes pack → Bytes given → length pack ≤ limit → Lawful lengths (filledWith pack given)
+  unfolding lengths allowed filledWith
+  filled-lawful b c l =
+      record { pack-bytes = b; fill-bytes = take-below (least (length pack)) given c; limited = l; filled = eq-eqb _ _ length-filling }
+
+module _ (p : Pair) (w : Lawful lengths p) where
+  pub filling-least : length (p .fill) ≡ least (length (p .pack))
+  unfolding lengths allowed
+  filling-least = eqb-true _ _ (w .filled)
+
+  -- bytes that begin with a pair's filling give the pair
+  pub filled-begins : (given : List ℕ) → take (length (p .fill)) given ≡ p .fill → filledWith (p .pack) given ≡ p
+  unfolding filledWith
+  filled-begins given e = ap (pair (p .pack)) (ap (λ (n : ℕ). take n given) (sym filling-least) ∙ e)

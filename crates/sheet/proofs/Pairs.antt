@@ -1,0 +1,68 @@
+-- Under an accepted password each lawful pair seals into a stream that opens to its package, and each stream that opens is the
+-- sealing of its own pair and of no other: the frame's inverse, said of the calls. Assumes nothing.
+use mathlib.Core.Path.{_≡_, ap, _∙_}
+use mathlib.Core.List.{List, _++_}
+use Prim.Native.Nat.{ℕ, _-_, _≤_}
+use native.Mathlib.Omega.{arith}
+use lib.ListN.{length, take, replicate}
+use Rattle.octets.specs.Octets.{Bytes}
+use Rattle.password.specs.Verdict.{judged}
+use Rattle.blocks.specs.Blocks.{whole}
+use Rattle.sheet.specs.Frame.{Pair, Lawful, Admitted, streamSize, pairOf}
+use Rattle.sheet.specs.Sheet.{lengths, sealedSize, sealing, opening, packageOf, sealingOf, Left, left, reply, opened, sealed}
+use Rattle.sheet.proofs.Frame.{size-streamOf, one-pair}
+use Rattle.sheet.proofs.Lengths.{openable, openable-admitted, admitted-openable, sealable}
+use Rattle.sheet.proofs.Laws.{open-done, open-zero, seal-done, length-sealing, filling-least, filled-begins}
+use Rattle.sheet.proofs.Keyed.{sound, inverted}
+
+-- answer 0 with the content, its size, and zeros to the end of the output
+abbrev pub gives : (content out : List ℕ) → Left
+gives content out = left (reply 0 (length content)) (content ++ replicate (length out - length content) 0)
+
+module _ (info password : List ℕ) (v : judged info password ≡ 0) where
+  module _ (p : Pair) (w : Lawful lengths p) where
+    pub stream-admitted : Admitted lengths (sealingOf info password p)
+    unfolding sealingOf
+    stream-admitted = inverted info password v .admitted p w
+
+    pub stream-size : streamSize (sealingOf info password p) ≡ length (p .pack)
+    unfolding sealingOf
+    stream-size = size-streamOf lengths whole (sealing info password) (opening info password) (sound info password v) p w
+
+    pub stream-package : packageOf info password (sealingOf info password p) ≡ p .pack
+    unfolding packageOf sealingOf
+    stream-package = ap (λ (q : Pair). q .pack) (inverted info password v .pair-again p w)
+
+    -- a pair seals, given room, with any bytes that begin with its filling
+    pub pair-seals : (given out : List ℕ) → take (length (p .fill)) given ≡ p .fill → length (sealingOf info password p) ≤ length out
+        → sealed info password (p .pack) given out ≡ gives (sealingOf info password p) out
+    unfolding lengths
+    pair-seals given out b h =
+        let n : length (sealingOf info password p) ≡ sealedSize (length (p .pack)) = length-sealing info password p (filling-least p w) in
+        seal-done info password (p .pack) given out v (sealable (length (p .pack)) (length out) .1 (record { limited = w .limited; roomy = omega arith }))
+        ∙ rw (filled-begins p w given b, n)
+
+    -- and its stream opens, given room, to its package
+    pub stream-opens : (out : List ℕ) → length (p .pack) ≤ length out → opened info password (sealingOf info password p) out ≡ gives (p .pack) out
+    stream-opens out h =
+        let s : List ℕ = sealingOf info password p in
+        let z : streamSize s ≡ length (p .pack) = stream-size in
+        open-done info password s out v (openable s (length out) .1 (admitted-openable s (length out) stream-admitted (omega arith)))
+        ∙ rw (z, stream-package)
+
+  -- two pairs never seal alike
+  pub sealed-once : (p q : Pair) → Lawful lengths p → Lawful lengths q → sealingOf info password p ≡ sealingOf info password q → p ≡ q
+  unfolding sealingOf
+  sealed-once = one-pair lengths (sealing info password) (opening info password) (inverted info password v)
+
+  -- a stream of bytes that opens is the sealing of a lawful pair, whose package is what comes out
+  module _ (s out : List ℕ) (b : Bytes s) (h : opened info password s out .reply .answer ≡ 0) where
+    opens-admitted : Admitted lengths s
+    opens-admitted = openable-admitted s (length out) b (open-zero info password s out h .1)
+
+    pub opened-lawful : Lawful lengths (pairOf (opening info password) s)
+    opened-lawful = inverted info password v .lawful s opens-admitted
+
+    pub opened-again : sealingOf info password (pairOf (opening info password) s) ≡ s
+    unfolding sealingOf
+    opened-again = inverted info password v .stream-again s opens-admitted

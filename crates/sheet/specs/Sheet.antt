@@ -1,0 +1,129 @@
+-- Opening and sealing: the answer, the size and every byte of the output, for every input (01, "The package stream" and rules 13 to
+-- 16; 004 2.3.4.4, 000 section 7). Assumes nothing.
+use mathlib.Core.Bool.{Bool, not}
+use mathlib.Core.List.{List, [], _∷_, _++_}
+use Prim.Native.Nat.{ℕ, zero, suc, _+_, _-_, _%_}
+use lib.Dec.{ltb, eqb}
+use lib.ListN.{length, take, replicate}
+use Rattle.answers.specs.Rules.{Rule, rule, firstOf}
+use Rattle.aes.specs.Aes.{encryption, decryption}
+use Rattle.descriptor.specs.Info.{described}
+use Rattle.password.specs.Verdict.{keyOf, verdictRules}
+use Rattle.blocks.specs.Blocks.{ecb}
+use Rattle.sheet.specs.Frame.{Pair, pair, Lengths, streamSize, streamOf, pairOf}
+use Rattle.sheet.specs.declared.Reply.{Reply}
+
+-- ---- lengths
+
+-- the most bytes of a package
+unfoldable pub limit : ℕ
+limit = 268435456
+
+-- the least number of bytes that brings a size to a multiple of 16, and that multiple
+unfoldable pub least : ℕ → ℕ
+least size = (16 - size % 16) % 16
+
+unfoldable pub rounded : ℕ → ℕ
+rounded size = size + least size
+
+-- a filling is exactly the least
+unfoldable pub allowed : ℕ → ℕ → Bool
+allowed size n = eqb n (least size)
+
+unfoldable pub lengths : Lengths
+lengths = record { limit = limit; allowed = allowed }
+
+-- how long the stream of a package is
+unfoldable pub sealedSize : ℕ → ℕ
+sealedSize size = 8 + rounded size
+
+-- ---- what each rule tests (01, "The numbered replies")
+
+unfoldable pub shortStream : List ℕ → Bool
+shortStream s = ltb (length s) 8
+
+unfoldable pub large : ℕ → Bool
+large size = ltb limit size
+
+-- the bytes after the first eight are not, in number, StreamSize rounded up
+unfoldable pub badCiphertext : List ℕ → Bool
+badCiphertext s = not (eqb (length s - 8) (rounded (streamSize s)))
+
+unfoldable pub lacks : (room size : ℕ) → Bool
+lacks room size = ltb room size
+
+-- the rules 13 to 16 of opening, for a stream and the room of the output
+unfoldable pub streamRules : List ℕ → ℕ → List Rule
+streamRules s room =
+    rule 13 (shortStream s)
+    ∷ rule 14 (large (streamSize s))
+    ∷ rule 15 (badCiphertext s)
+    ∷ rule 16 (lacks room (streamSize s))
+    ∷ []
+
+-- the rules 14 and 16 of sealing, for the size of a package and the room of the output
+unfoldable pub packRules : ℕ → ℕ → List Rule
+packRules size room =
+    rule 14 (large size)
+    ∷ rule 16 (lacks room (sealedSize size))
+    ∷ []
+
+-- all of each, after the rules 1 to 12
+unfoldable pub openRules : (info password stream : List ℕ) (room : ℕ) → List Rule
+openRules info password stream room = verdictRules info password ++ streamRules stream room
+
+unfoldable pub sealRules : (info password : List ℕ) (size room : ℕ) → List Rule
+sealRules info password size room = verdictRules info password ++ packRules size room
+
+-- ---- what is written
+
+-- the key of EncryptionInfo and a password
+unfoldable pub sheetKey : (info password : List ℕ) → List ℕ
+sheetKey info password = keyOf (described info) password
+
+-- AES-ECB under it, both ways
+unfoldable pub sealing : (info password : List ℕ) → List ℕ → List ℕ
+sealing info password = ecb (encryption (sheetKey info password))
+
+unfoldable pub opening : (info password : List ℕ) → List ℕ → List ℕ
+opening info password = ecb (decryption (sheetKey info password))
+
+-- the package of a stream
+unfoldable pub packageOf : (info password stream : List ℕ) → List ℕ
+packageOf info password stream = pairOf (opening info password) stream .pack
+
+-- a package with the first of the bytes given to fill it, as many as are needed
+unfoldable pub filledWith : (pack given : List ℕ) → Pair
+filledWith pack given = pair pack (take (least (length pack)) given)
+
+-- the stream of a pair
+unfoldable pub sealingOf : (info password : List ℕ) → Pair → List ℕ
+sealingOf info password p = streamOf (sealing info password) p
+
+-- ---- what a call leaves
+
+-- its reply, and the output
+pub record Left : Type 0 where
+  pub reply : Reply
+  pub out : List ℕ
+
+abbrev pub left : Reply → List ℕ → Left
+left r o = record { reply = r; out = o }
+
+abbrev pub reply : ℕ → ℕ → Reply
+reply answer size = record { answer = answer; size = size }
+
+-- by its answer: with 0 the content of that size and zeros after it; with any other size 0, and the output as it was
+unfoldable pub ended : (answer size : ℕ) (content out : List ℕ) → Left
+ended zero size content out = left (reply 0 size) (content ++ replicate (length out - size) 0)
+ended (suc n) size content out = left (reply (suc n) 0) out
+
+-- `open`
+unfoldable pub opened : (info password stream out : List ℕ) → Left
+opened info password stream out =
+    ended (firstOf (openRules info password stream (length out))) (streamSize stream) (packageOf info password stream) out
+
+-- `seal`, with sixteen bytes given to fill the last block
+unfoldable pub sealed : (info password pack given out : List ℕ) → Left
+sealed info password pack given out =
+    ended (firstOf (sealRules info password (length pack) (length out))) (sealedSize (length pack)) (sealingOf info password (filledWith pack given)) out

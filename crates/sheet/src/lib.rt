@@ -1,0 +1,114 @@
+// Opens and seals the package of a locked document (01, "The package stream"; 004 2.3.4.4), given EncryptionInfo and the password.
+//
+//     let r = sheet::open(info, password, stream, &mut out);
+//     if r.answer == answers::DONE { .. the first r.size bytes of out .. }
+//
+// Each call says in full what it leaves: on answer 0 the content and then zeros to the end of the output, whatever it held; on any
+// other answer, size 0 and the output as it was. The tests go in 01's order, and the key is derived once a call.
+//
+// Warning: AES in ECB mode lets equal blocks be seen to be equal, and nothing here tells whether a stream was changed.
+ghost use mathlib.Core.Path.{_≡_};
+ghost use Prim.Native.Nat.{_≤_};
+ghost use Rattle.answers.specs.Rules.{firstOf};
+ghost use Rattle.sheet.specs.Sheet as Sheet;
+ghost use Rattle.sheet.specs.Sheet.{left, opened, sealed};
+
+// The most bytes of a package.
+const LIMIT: usize = 268435456;
+
+// What `open` and `seal` answer: 0 beside the number of bytes written, or the first broken rule's number beside 0.
+pub struct Reply {
+    pub answer: u16,
+    pub size: usize,
+}
+
+// A size brought to a multiple of 16. Within the limit nothing wraps.
+fn rounded(size: usize) -> usize
+    requires { ⌜ size ≤ Sheet.limit ⌝ }
+    ensures { λ r. ⌜ r ≡ Sheet.rounded size ⌝ }
+{
+    size + (16 - size % 16) % 16
+}
+
+// The first of the rules 13 to 16 that a stream breaks, given the room of the output; 0 where it breaks none.
+fn stream_answer(stream: &[u8], room: usize) -> u16
+    ensures { λ r. ⌜ r ≡ firstOf (Sheet.streamRules (now (stream .entry)) room) ⌝ }
+{
+    if stream.len() < 8 {
+        return answers::STREAM_SHORT;
+    }
+    let size = octets::le64(stream, 0) as usize;
+    if LIMIT < size {
+        return answers::STREAM_SIZE;
+    }
+    let rest = stream.len() - 8;
+    if rest != rounded(size) {
+        return answers::STREAM_LENGTH;
+    }
+    answers::first(room < size, answers::ROOM, answers::DONE)
+}
+
+// The first of the rules 14 and 16 that a package of that size breaks, given the room of the output; 0 where it breaks none.
+fn pack_answer(size: usize, room: usize) -> u16
+    ensures { λ r. ⌜ r ≡ firstOf (Sheet.packRules size room) ⌝ }
+{
+    if LIMIT < size {
+        return answers::STREAM_SIZE;
+    }
+    answers::first(room < 8 + rounded(size), answers::ROOM, answers::DONE)
+}
+
+// Opens a package stream into out: as many bytes as StreamSize says, whatever its filling holds.
+pub fn open(info: &[u8], password: &[u16], stream: &[u8], out: &mut [u8]) -> Reply
+    ensures { λ r. ⌜ left r (now (out .exit)) ≡ opened (now (info .entry)) (now (password .entry)) (now (stream .entry)) (now (out .entry)) ⌝ }
+{
+    let u = password::unlock(info, password);
+    let a = u.answer;
+    if a != answers::DONE {
+        return Reply { answer: a, size: 0 };
+    }
+    let b = stream_answer(stream, out.len());
+    if b != answers::DONE {
+        return Reply { answer: b, size: 0 };
+    }
+    let size = octets::le64(stream, 0) as usize;
+    let key = u.key;
+    blocks::decrypt(key, &stream[8..], size, out);
+    octets::zero_from(out, size);
+    Reply {
+        answer: answers::DONE,
+        size,
+    }
+}
+
+// Seals a package into out under an existing descriptor, its last block filled with the first of the filling bytes.
+pub fn seal(
+    info: &[u8],
+    password: &[u16],
+    contents: &[u8],
+    filling: [u8; 16],
+    out: &mut [u8],
+) -> Reply
+    ensures { λ r. ⌜ left r (now (out .exit)) ≡ sealed (now (info .entry)) (now (password .entry)) (now (contents .entry)) filling (now (out .entry)) ⌝ }
+{
+    let u = password::unlock(info, password);
+    let a = u.answer;
+    if a != answers::DONE {
+        return Reply { answer: a, size: 0 };
+    }
+    let n = contents.len();
+    let b = pack_answer(n, out.len());
+    if b != answers::DONE {
+        return Reply { answer: b, size: 0 };
+    }
+    let whole = rounded(n);
+    let key = u.key;
+    octets::put_le64(out, 0, n as u64);
+    blocks::encrypt(key, contents, filling, whole, out, 8);
+    let size = 8 + whole;
+    octets::zero_from(out, size);
+    Reply {
+        answer: answers::DONE,
+        size,
+    }
+}
