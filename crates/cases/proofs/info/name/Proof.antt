@@ -1,0 +1,28 @@
+-- A letter goes to each other byte; all of them lie within the stream.
+use Prim.Native.Nat.{_-_, _≤_}
+use native.Mathlib.Omega.{arith}
+use borrow.Author.Needs.{needs}
+use Rattle.cases.proofs.info.name.Statement.{statement}
+use Rattle.cases.proofs.info.name.Tie as tie
+
+abbrev Inv-loop : tie.InvT-loop
+Inv-loop letters t₀ i₀ t i = i ≤ 53
+
+abbrev μ-loop : tie.MeasureT-loop
+μ-loop letters t₀ i₀ t i = 53 - i
+
+pub name-spec : {M : Type 1} → statement M
+name-spec =
+    tie.close
+    (tie.spec
+    Inv-loop
+    μ-loop
+    (λ c. omega arith)
+    (λ c. omega arith)
+    (λ c. omega arith)
+    (λ c. omega arith)
+    (λ c. omega arith)
+    (λ c. omega arith)
+    (λ c. omega arith)
+    (λ c. omega arith)
+    (λ c. search needs))
