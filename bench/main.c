@@ -10,6 +10,7 @@
 #include <string.h>
 #include <time.h>
 
+uint64_t bench_hash(const unsigned char *m, size_t n);
 uint64_t bench_sha1(const unsigned char *m, size_t n);
 uint64_t bench_encrypt(const unsigned char *key, size_t k, unsigned char *buf, size_t n);
 uint64_t bench_decrypt(const unsigned char *key, size_t k, unsigned char *buf, size_t n);
@@ -65,7 +66,14 @@ static void compare(const char *what, const char *unit, work *const *each, const
 
 /* ---- SHA-1 */
 
-static void sha1_ours(unsigned char *m, size_t n, unsigned char *out)
+static void sha1_alone(unsigned char *m, size_t n, unsigned char *out)
+{
+    uint64_t h = bench_hash(m, n);
+    memcpy(out, &h, 8);
+}
+
+/* in a library that derives keys too, where the compression is called from two places */
+static void sha1_shared(unsigned char *m, size_t n, unsigned char *out)
 {
     uint64_t h = bench_sha1(m, n);
     memcpy(out, &h, 8);
@@ -204,10 +212,11 @@ static void verdict_openssl(unsigned char *buf, size_t n, unsigned char *out)
 
 int main(int argc, char **argv)
 {
-    static work *const sha1s[] = {sha1_ours, sha1_c, sha1_openssl};
+    static work *const sha1s[] = {sha1_alone, sha1_shared, sha1_c, sha1_openssl};
     static work *const encrypts[] = {encrypt_ours, encrypt_c, encrypt_openssl};
     static work *const decrypts[] = {decrypt_ours, decrypt_c, decrypt_openssl};
     static work *const verdicts[] = {verdict_ours, verdict_openssl};
+    static const char *const four[] = {"", "beside keys", "C", "OpenSSL"};
     static const char *const three[] = {"", "C", "OpenSSL"};
     static const char *const two[] = {"", "OpenSSL"};
     char name[64];
@@ -215,8 +224,8 @@ int main(int argc, char **argv)
     set_tables();
     set_info();
     printf("OpenSSL %s\n", argv[1]);
-    compare("sha1, 24 bytes", "ns", sha1s, three, 3, 24, 20000, 1);
-    compare("sha1, a block of 65,536 bytes", "ns", sha1s, three, 3, LONG, 40, 1024);
+    compare("sha1, 24 bytes", "ns", sha1s, four, 4, 24, 20000, 1);
+    compare("sha1, a block of 65,536 bytes", "ns", sha1s, four, 4, LONG, 40, 1024);
     for (size_t k = 16; k <= 32; k += 8) {
         set_key(k);
         snprintf(name, sizeof name, "aes-%zu, encrypt a block", 8 * k);

@@ -113,11 +113,8 @@ fn answer(s: &[u8]) -> u16
     let h = le32(s, 8);
     let at = h as usize;
     let suite = suite_of(le32(s, 20));
-    let rest = answers::first(
-        le32(s, 48 + at) != 20,
-        answers::VERIFIER_HASH_SIZE,
-        answers::DONE,
-    );
+    let rest = answers::DONE;
+    let rest = answers::first(le32(s, 48 + at) != 20, answers::VERIFIER_HASH_SIZE, rest);
     let rest = answers::first(le32(s, 12 + at) != 16, answers::SALT_SIZE, rest);
     let rest = answers::first(le32(s, 28) != suite.bits.0, answers::KEY_SIZE, rest);
     let rest = answers::first(le32(s, 24) != 0x8004, answers::ALG_ID_HASH, rest);

@@ -1,24 +1,26 @@
 -- The ways out of the verdict: a law for each, for this crate's proofs and those above. Assumes nothing.
-use mathlib.Core.Path.{_≡_, sym}
+use mathlib.Core.Path.{_≡_, sym, ap, _∙_}
 use mathlib.Core.Bool.{true, false}
 use mathlib.Core.List.{List}
 use mathlib.Core.Logic.{inl, inr, ⊎-elim}
 use Prim.Native.Nat.{ℕ, _≤_, _<_}
 use native.Mathlib.Omega.{arith}
-use borrow.Author.Tests.{lt-ltb, le-ltb, ne-eqb, eqb-true}
+use borrow.Author.Tests.{lt-ltb, le-ltb, ne-eqb, eqb-true, eqb-false}
 use lib.Dec.{eqb}
-use lib.ListN.{length, length-append}
+use lib.ListN.{length, take, length-append}
 use lib.Seq.{length-take-le}
-use Rattle.octets.specs.Octets.{Bytes}
+use Rattle.octets.specs.Octets.{Bytes, same}
 use Rattle.octets.proofs.Below.{append-below, take-below}
 use Rattle.answers.specs.Rules.{firstOf}
 use Rattle.answers.proofs.Laws.{either, stop, then}
 use Rattle.sha1.proofs.Laws.{length-sha1, sha1-bytes}
-use Rattle.aes.specs.Aes.{keyLength, expanded}
+use Rattle.sha1.specs.Sha1.{sha1}
+use Rattle.aes.specs.Aes.{keyLength, expanded, decryption}
 use Rattle.aes.proofs.Keys.{key-lengths}
-use Rattle.descriptor.specs.Info.{infoRules, described}
+use Rattle.descriptor.specs.Info.{infoRules, described, parsed}
 use Rattle.descriptor.specs.declared.Descriptor.{Descriptor}
-use Rattle.descriptor.proofs.Laws.{Admitted, Sound, info-numbered}
+use Rattle.descriptor.specs.declared.Parsed.{Parsed}
+use Rattle.descriptor.proofs.Laws.{Admitted, Sound, info-numbered, parsed-answer, parsed-fields}
 use Rattle.password.specs.Key as Key
 use Rattle.password.specs.Verdict as Verdict
 
@@ -88,4 +90,34 @@ unlocked-answer info p =
     elim (either (eqb (Verdict.judged info p) 0)) [
       | inl e ↦ rw e (sym (eqb-true _ _ e))
       | inr e ↦ rw e
+    ]
+
+-- ---- what the verdict depends on
+
+-- of the decrypted hash field, its first twenty bytes alone
+pub first-twenty : (key verifier hash other : List ℕ) → take 20 (Verdict.verifierHash key hash) ≡ take 20 (Verdict.verifierHash key other)
+    → Verdict.matches key verifier hash ≡ Verdict.matches key verifier other
+unfolding Verdict.matches
+first-twenty key verifier hash other e = ap (same (sha1 (decryption key verifier))) e
+
+-- where EncryptionInfo is admitted, the fields of its parse
+judged-fields : (info p : List ℕ) → Admitted info → Verdict.judged info p ≡ firstOf (Verdict.passwordRules (parsed info .fields) p)
+judged-fields info p h = rest info p h ∙ ap (λ (d : Descriptor). firstOf (Verdict.passwordRules d p)) (sym (parsed-fields info h))
+
+-- and where it is not, the answer
+judged-refused : (info p : List ℕ) → (Admitted info → ⊥) → Verdict.judged info p ≡ parsed info .answer
+unfolding Verdict.judged Verdict.verdictRules
+judged-refused info p h = stop (infoRules info) (Verdict.passwordRules (described info) p) h ∙ sym (parsed-answer info)
+
+-- so a parse determines the verdict, together with the password
+pub determined : (info other p : List ℕ) → parsed info ≡ parsed other → Verdict.judged info p ≡ Verdict.judged other p
+determined info other p e =
+    let a : firstOf (infoRules info) ≡ firstOf (infoRules other) = sym (parsed-answer info) ∙ ap (λ (x : Parsed). x .answer) e ∙ parsed-answer other in
+    elim (either (eqb (firstOf (infoRules info)) 0)) [
+      | inl t ↦
+          let h : Admitted info = eqb-true _ _ t in
+          judged-fields info p h ∙ ap (λ (x : Parsed). firstOf (Verdict.passwordRules (x .fields) p)) e ∙ sym (judged-fields other p (sym a ∙ h))
+      | inr t ↦
+          let h : Admitted info → ⊥ = eqb-false _ _ t in
+          judged-refused info p h ∙ ap (λ (x : Parsed). x .answer) e ∙ sym (judged-refused other p (λ z. h (a ∙ z)))
     ]
