@@ -3,7 +3,7 @@
 ghost use mathlib.Core.Path.{_≡_};
 ghost use mathlib.Core.List.{[], _∷_};
 ghost use Rattle.octets.specs.Octets.{be, leBytes};
-ghost use Rattle.sha1.specs.Sha1.{sha1, output, wordBytes};
+ghost use Rattle.sha1.specs.Sha1.{sha1, output, wordBytes, roundWords};
 ghost use Rattle.password.specs.Key.{turn, turns, spins, blockHash};
 use sha1::State;
 
@@ -18,28 +18,31 @@ fn swapped(i: u32) -> u32
 }
 
 // The hash of six words: they, the one bit, zeros and the length of 192 bits are one block.
-fn six(a: u32, b: u32, c: u32, d: u32, e: u32, f: u32) -> State
+fn six(k: &[u32; 4], a: u32, b: u32, c: u32, d: u32, e: u32, f: u32) -> State
+    requires { ⌜ now k ≡ roundWords ⌝ }
     ensures { λ r. ⌜ output r ≡ sha1 (wordBytes (a ∷ b ∷ c ∷ d ∷ e ∷ f ∷ [])) ⌝ }
 {
     let m = [a, b, c, d, e, f, 0x80000000, 0, 0, 0, 0, 0, 0, 0, 0, 192];
-    sha1::compress(sha1::start(), &m)
+    sha1::compress(sha1::start(), &m, k)
 }
 
 // Turn i.
-fn next(i: u32, s: State) -> State
+fn next(k: &[u32; 4], i: u32, s: State) -> State
+    requires { ⌜ now k ≡ roundWords ⌝ }
     ensures { λ r. ⌜ output r ≡ turn i (output s) ⌝ }
 {
-    six(swapped(i), s.a, s.b, s.c, s.d, s.e)
+    six(k, swapped(i), s.a, s.b, s.c, s.d, s.e)
 }
 
 // All the turns.
 pub fn spun(s: State) -> State
     ensures { λ r. ⌜ output r ≡ turns spins (output s) ⌝ }
 {
+    let k = sha1::round_words();
     let mut h = s;
     let mut i: u32 = 0;
     while i < 50000 {
-        h = next(i, h);
+        h = next(&k, i, h);
         i += 1;
     }
     h
@@ -49,5 +52,6 @@ pub fn spun(s: State) -> State
 pub fn block_hash(s: State) -> State
     ensures { λ r. ⌜ output r ≡ blockHash (output s) ⌝ }
 {
-    six(s.a, s.b, s.c, s.d, s.e, 0)
+    let k = sha1::round_words();
+    six(&k, s.a, s.b, s.c, s.d, s.e, 0)
 }

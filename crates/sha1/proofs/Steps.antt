@@ -1,5 +1,5 @@
 -- The rounds and the schedule grow by one step; a round's range decides its function and its word. Assumes nothing.
-use mathlib.Core.Path.{_≡_, refl}
+use mathlib.Core.Path.{_≡_, refl, sym}
 use mathlib.Core.List.{List}
 use Prim.Native.Nat.{ℕ, _+_, _-_, _≤_, _<_}
 use native.Mathlib.Numerals.{add-one}
@@ -26,6 +26,24 @@ module _ (t p q r s : ℕ) where
   pub last : 60 ≤ t → fips.ranged t p q r s ≡ s
   unfolding fips.ranged
   last g = simp (le-ltb t 20 (omega arith), le-ltb t 40 (omega arith), le-ltb t 60 g)
+
+-- the round words' ranges
+module _ (k : List ℕ) (e : k ≡ fips.roundWords) (t : ℕ) where
+  pub first-word : t < 20 → getD k 0 0 ≡ fips.constant t
+  unfolding fips.constant
+  first-word h = rw e (sym (first t _ _ _ _ h))
+
+  pub second-word : 20 ≤ t → t < 40 → getD k 1 0 ≡ fips.constant t
+  unfolding fips.constant
+  second-word g h = rw e (sym (second t _ _ _ _ g h))
+
+  pub third-word : 40 ≤ t → t < 60 → getD k 2 0 ≡ fips.constant t
+  unfolding fips.constant
+  third-word g h = rw e (sym (third t _ _ _ _ g h))
+
+  pub last-word : 60 ≤ t → getD k 3 0 ≡ fips.constant t
+  unfolding fips.constant
+  last-word g = rw e (sym (last t _ _ _ _ g))
 
 pub rounds-none : (w : List ℕ) (s : State) → s ≡ fips.rounds w 0 s
 unfolding fips.rounds

@@ -30,12 +30,15 @@ maj x y z = bitXor (bitXor (bitAnd x y) (bitAnd x z)) (bitAnd y z)
 unfoldable pub ranged : ℕ → ℕ → ℕ → ℕ → ℕ → ℕ
 ranged t p q r s = cond (ltb t 20) p (cond (ltb t 40) q (cond (ltb t 60) r s))
 
--- the function of round t (4.1.1) and its constant word (4.2.1)
+-- the function of round t (4.1.1), the four round words and the one of round t (4.2.1)
 unfoldable pub mix : ℕ → ℕ → ℕ → ℕ → ℕ
 mix t x y z = ranged t (ch x y z) (parity x y z) (maj x y z) (parity x y z)
 
+unfoldable pub roundWords : List ℕ
+roundWords = 0x5a827999 ∷ 0x6ed9eba1 ∷ 0x8f1bbcdc ∷ 0xca62c1d6 ∷ []
+
 unfoldable pub constant : ℕ → ℕ
-constant t = ranged t 0x5a827999 0x6ed9eba1 0x8f1bbcdc 0xca62c1d6
+constant t = ranged t (getD roundWords 0 0) (getD roundWords 1 0) (getD roundWords 2 0) (getD roundWords 3 0)
 
 -- ---- the message schedule (6.1.2, step 1)
 

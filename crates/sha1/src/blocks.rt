@@ -6,6 +6,7 @@ ghost use Rattle.sha1.specs.Sha1 as fips;
 ghost use Rattle.sha1.specs.Ending.{Ends};
 use crate::State;
 use crate::compress;
+use crate::rounds::round_words;
 use crate::start;
 
 // The sixteen words of the block at `at`.
@@ -39,11 +40,12 @@ pub fn chain(m: &[u8], tail: &[u8], n: usize) -> State
     requires { ⌜ Ends (now m) (now tail) × (64 * n ≤ length (fips.pad (now m))) ⌝ }
     ensures { λ r. ⌜ r ≡ fips.chain (fips.pad (now (m .entry))) n fips.start ⌝ }
 {
+    let k = round_words();
     let mut s = start();
     let mut i = 0;
     while i < n {
         let words = padded_block(m, tail, i);
-        s = compress(s, &words);
+        s = compress(s, &words, &k);
         i += 1;
     }
     s

@@ -17,6 +17,7 @@ mod rounds;
 mod schedule;
 
 pub use blocks::output;
+pub use rounds::round_words;
 
 // The five words that go from block to block (FIPS 180-4 6.1).
 pub struct State {
@@ -49,12 +50,13 @@ pub fn start() -> State
     }
 }
 
-// One block of sixteen words.
-pub fn compress(s: State, m: &[u32; 16]) -> State
+// One block of sixteen words, the round words lent.
+pub fn compress(s: State, m: &[u32; 16], k: &[u32; 4]) -> State
+    requires { ⌜ now k ≡ fips.roundWords ⌝ }
     ensures { λ r. ⌜ r ≡ fips.compress s (now (m .entry)) ⌝ }
 {
     let w = schedule::schedule(m);
-    let r = rounds::eighty(&w, s);
+    let r = rounds::eighty(&w, k, s);
     rounds::sums(s, r)
 }
 

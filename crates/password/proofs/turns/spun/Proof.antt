@@ -10,10 +10,10 @@ use Rattle.password.proofs.turns.spun.Statement.{statement}
 use Rattle.password.proofs.turns.spun.Tie as tie
 
 abbrev Inv-loop : tie.InvT-loop
-Inv-loop h₀ i₀ h i = (i ≤ 50000) × (output h ≡ turns i (output h₀))
+Inv-loop k h₀ i₀ h i = (i ≤ 50000) × (output h ≡ turns i (output h₀))
 
 abbrev μ-loop : tie.MeasureT-loop
-μ-loop h₀ i₀ h i = 50000 - i
+μ-loop k h₀ i₀ h i = 50000 - i
 
 loop-holds : tie.Need-loop-holds Inv-loop μ-loop
 unfolding turns
@@ -21,7 +21,7 @@ loop-holds c = (omega arith, refl)
 
 loop-again : tie.Need-loop-again Inv-loop μ-loop
 loop-again c =
-    let l = c .before .before in
+    let l = c .before .before .before in
     (omega arith, c .next .ensures ∙ ap (turn (l .loop .i)) (l .loop .inv .1) ∙ sym (turns-more (l .loop .i) _))
 
 returns : tie.Need-returns Inv-loop μ-loop
@@ -31,4 +31,13 @@ returns c = let e : c .before .loop .i ≡ 50000 = omega arith in rw e at (c .be
 pub spun-spec : {M : Type 1} → statement M
 spun-spec =
     tie.close
-    (tie.spec Inv-loop μ-loop loop-holds (λ c κs. search needs) (λ c. omega arith) (λ c. omega arith) loop-again returns)
+    (tie.spec
+    Inv-loop
+    μ-loop
+    (λ c κs. search needs)
+    loop-holds
+    (λ c κs. search needs)
+    (λ c. omega arith)
+    (λ c. omega arith)
+    loop-again
+    returns)

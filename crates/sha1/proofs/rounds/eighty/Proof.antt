@@ -1,15 +1,38 @@
--- The spans one after the other.
+-- The spans one after the other, each with its word.
+use native.Mathlib.Omega.{arith}
 use borrow.Author.Needs.{needs}
-use Rattle.sha1.proofs.Steps.{rounds-none}
+use Rattle.sha1.proofs.Steps.{rounds-none, first-word, second-word, third-word, last-word}
 use Rattle.sha1.proofs.rounds.eighty.Statement.{statement}
 use Rattle.sha1.proofs.rounds.eighty.Tie as tie
 
+span-requires : tie.Need-span-requires
+span-requires c κs = (omega arith, (omega arith, λ t g h. first-word _ (c .before .pre) t h))
+
+span-requires-2 : tie.Need-span-requires-2
+span-requires-2 c κs = (omega arith, (omega arith, λ t g h. second-word _ (c .before .before .before .pre) t g h))
+
+span-requires-3 : tie.Need-span-requires-3
+span-requires-3 c κs = (omega arith, (omega arith, λ t g h. third-word _ (c .before .before .before .before .before .pre) t g h))
+
+span-requires-4 : tie.Need-span-requires-4
+span-requires-4 c κs = (omega arith, (omega arith, λ t g h. last-word _ (c .before .before .before .before .before .before .before .pre) t g))
+
 returns : tie.Need-returns
 returns c =
-    let a = c .before .before .before .before .args in
-    c .span4 .ensures (a .s) (c .before .span3 .ensures (a .s) (c .before .before .span2 .ensures (a .s)
-    (c .before .before .before .span .ensures (a .s) (rounds-none (a .w .now) (a .s)))))
+    let a = c .before .before .before .before .before .before .before .before .args in
+    c .span4 .ensures (a .s) (c .before .before .span3 .ensures (a .s) (c .before .before .before .before .span2 .ensures (a .s)
+    (c .before .before .before .before .before .before .span .ensures (a .s) (rounds-none (a .w .now) (a .s)))))
 
 pub eighty-spec : {M : Type 1} → statement M
 eighty-spec =
-    tie.close (tie.spec (λ c κs. search needs) (λ c κs. search needs) (λ c κs. search needs) (λ c κs. search needs) returns)
+    tie.close
+    (tie.spec
+    (λ c. search needs)
+    span-requires
+    (λ c. search needs)
+    span-requires-2
+    (λ c. search needs)
+    span-requires-3
+    (λ c. search needs)
+    span-requires-4
+    returns)

@@ -2,7 +2,6 @@
 use mathlib.Core.Path.{_≡_, sym, ap, _∙_}
 use Prim.Native.Nat.{_-_, _≤_}
 use native.Mathlib.Omega.{arith}
-use borrow.Author.Needs.{needs}
 use lib.ListN.{getD}
 use Rattle.sha1.specs.Sha1 as fips
 use Rattle.sha1.specs.declared.State.{State}
@@ -11,13 +10,16 @@ use Rattle.sha1.proofs.rounds.span.Statement.{statement}
 use Rattle.sha1.proofs.rounds.span.Tie as tie
 
 abbrev Inv-loop : tie.InvT-loop
-Inv-loop w from to r₀ t₀ r t = (from ≤ t) × ((t ≤ to) × ((x : State) → r₀ ≡ fips.rounds w from x → r ≡ fips.rounds w t x))
+Inv-loop w k from to r₀ t₀ r t = (from ≤ t) × ((t ≤ to) × ((x : State) → r₀ ≡ fips.rounds w from x → r ≡ fips.rounds w t x))
 
 abbrev μ-loop : tie.MeasureT-loop
-μ-loop w from to r₀ t₀ r t = to - t
+μ-loop w k from to r₀ t₀ r t = to - t
 
 loop-holds : tie.Need-loop-holds Inv-loop μ-loop
 loop-holds c = (omega arith, (omega arith, λ x e. e))
+
+step-requires : tie.Need-step-requires Inv-loop μ-loop
+step-requires c κs = c .before .before .before .pre .1 .1 (c .before .before .loop .t) (omega arith) (omega arith)
 
 loop-again : tie.Need-loop-again Inv-loop μ-loop
 loop-again c =
@@ -40,7 +42,7 @@ span-spec =
     loop-holds
     (λ c. omega arith)
     (λ c. omega arith)
-    (λ c κs. search needs)
+    step-requires
     (λ c. omega arith)
     (λ c. omega arith)
     loop-again

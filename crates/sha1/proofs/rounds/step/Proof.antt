@@ -11,11 +11,11 @@ returns c = simp (
   c .rotl2 .ensures,
   c .before .add4 .ensures,
   c .before .before .add3 .ensures,
-  c .before .before .before .constant .ensures,
-  c .before .before .before .before .add2 .ensures,
-  c .before .before .before .before .before .add .ensures,
-  c .before .before .before .before .before .before .mix .ensures,
-  c .before .before .before .before .before .before .before .rotl .ensures,
+  c .before .before .before .add2 .ensures,
+  c .before .before .before .before .add .ensures,
+  c .before .before .before .before .before .mix .ensures,
+  c .before .before .before .before .before .before .rotl .ensures,
+  c .before .before .before .before .before .before .before .pre,
   mod-add-mod,
 )
 
@@ -23,7 +23,6 @@ pub step-spec : {M : Type 1} → statement M
 step-spec =
     tie.close
     (tie.spec
-    (λ c κs. search needs)
     (λ c κs. search needs)
     (λ c κs. search needs)
     (λ c κs. search needs)
