@@ -1,0 +1,142 @@
+-- Every row of the table P1 to P12, by a law for each kind of row: the table's numbers are computed, the lists are variables.
+-- Assumes nothing.
+use mathlib.Core.Path.{_≡_, refl, sym, ap, _∙_}
+use mathlib.Core.Logic.{inl, inr}
+use mathlib.Core.Bool.{Bool, true, false, not, _&&_}
+use mathlib.Core.List.{List, [], _∷_}
+use Prim.Native.Nat.{ℕ, _+_, _-_, _≤_, _<_}
+use native.Mathlib.Omega.{arith}
+use borrow.Author.Tests.{lt-ltb, le-ltb}
+use lib.Dec.{T, ltb, eqb, ltb→lt, lit≤, lit<}
+use lib.ListN.{length, take, drop, take-append-drop}
+use Rattle.answers.specs.Rules.{Rule, firstOf, AllHold}
+use Rattle.answers.proofs.Laws.{either, broke, held, all-hold}
+use Rattle.descriptor.specs.Info.{infoRules, headerSize, sizeExtra, algId, keySize, badHeaderSize, badName, suiteOf, described, parsed}
+use Rattle.descriptor.proofs.Laws.{parsed-answer, parsed-fields}
+use Rattle.password.specs.Verdict.{judged, keyOf}
+use Rattle.sheet.specs.Frame.{streamSize, streamOf}
+use Rattle.sheet.specs.Sheet.{limit, least, rounded, sealedSize, shortStream, large, streamRules, packRules, opened, sealed}
+use Rattle.sheet.specs.Sheet.{sheetKey, sealing, filledWith, sealingOf}
+use Rattle.sheet.proofs.Lengths.{sealable}
+use Rattle.sheet.proofs.Laws.{open-by-stream, seal-by-pack, seal-done}
+use Rattle.promises.specs.Cases.{_is_, Case, seals, refuses, answers, passes, names, table, Outside, Claim, Every}
+use Rattle.promises.proofs.Rows.{_and_}
+
+-- what a row claims of our entries
+abbrev Ours : Case → Type 0
+Ours = Claim parsed judged opened sealed
+
+-- ---- sealing and opening
+
+seals-row : (size filling : ℕ) → least size ≡ filling → size ≤ 268435456 → Ours (seals size (8 + (size + filling)) filling)
+unfolding limit sealedSize rounded sealingOf streamOf filledWith sealing sheetKey keyOf described
+seals-row size filling f l info password pack given out v n g r =
+    let z : least (length pack) ≡ filling = ap least n ∙ f in
+    seal-done info password pack given out v (sealable (length pack) (length out) .1 (record { limited = omega arith; roomy = rw z (omega arith) }))
+    ∙ rw (z, n)
+
+module _ (size : ℕ) (h : 268435456 < size) where
+  pack-large : (n room : ℕ) → n ≡ size → firstOf (packRules n room) ≡ 14
+  unfolding packRules large limit
+  pack-large n room e = broke _ _ (lt-ltb 268435456 n (omega arith))
+
+  stream-large : (s : List ℕ) (room : ℕ) → 8 ≤ length s → streamSize s ≡ size → firstOf (streamRules s room) ≡ 14
+  unfolding streamRules shortStream large limit
+  stream-large s room l e = held _ _ (le-ltb _ _ l) ∙ broke _ _ (lt-ltb 268435456 (streamSize s) (omega arith))
+
+  refuses-row : Ours (refuses size 14)
+  refuses-row info password v = (
+    λ pack given out n g.
+        let e : firstOf (packRules (length pack) (length out)) ≡ 14 = pack-large (length pack) (length out) n in
+        seal-by-pack info password pack given out v (λ z. omega arith) ∙ rw e,
+    λ s out l n.
+        let e : firstOf (streamRules s (length out)) ≡ 14 = stream-large s (length out) l n in
+        open-by-stream info password s out v (λ z. omega arith) ∙ rw e,
+  )
+
+-- ---- parsing
+
+-- where the first k rules hold those after them decide
+after : (k : ℕ) (info : List ℕ) → AllHold (take k (infoRules info)) → parsed info .answer ≡ firstOf (drop k (infoRules info))
+after k info h =
+    parsed-answer info ∙ sym (ap firstOf (take-append-drop k (infoRules info))) ∙ all-hold (take k (infoRules info)) (drop k (infoRules info)) h
+
+abbrev above : ℕ → List Rule → Bool
+above m [] = true
+above m (r ∷ rs) = ltb m (r .number) && above m rs
+
+both : (a b : Bool) → T (a && b) → T a × T b
+both true b h = (tt, h)
+both false b h = absurd h
+
+-- rules numbered above m give 0 or a number above m
+first-above : (m : ℕ) (rs : List Rule) → T (above m rs) → 0 < firstOf rs → m < firstOf rs
+unfolding firstOf
+first-above m [] t h = absurd (omega arith)
+first-above m (r ∷ rs) t h =
+    let k = both (ltb m (r .number)) (above m rs) t in
+    elim (either (r .broken)) [
+      | inl e ↦ rw (broke r rs e) (ltb→lt m (r .number) (k .0))
+      | inr e ↦ rw (held r rs e) (first-above m rs (k .1) (rw (held r rs e) at h))
+    ]
+
+-- past the first k rules none of their numbers is given
+past : (k low : ℕ) (info : List ℕ) → 0 < low → T (above k (drop k (infoRules info))) → AllHold (take k (infoRules info))
+    → Outside low k (parsed info .answer)
+past k low info p t h l u =
+    let e : parsed info .answer ≡ firstOf (drop k (infoRules info)) = after k info h in
+    let m : k < firstOf (drop k (infoRules info)) = first-above k (drop k (infoRules info)) t (omega arith) in
+    omega arith
+
+p8 : Ours (passes (headerSize is 32 ∷ length is 116 ∷ []) 3 4)
+unfolding infoRules badHeaderSize
+p8 info f h = past 4 3 info (lit< tt) tt (h .0 and h .1 .0 and (rw (f .0)) and (rw (f .0, f .1 .0)) and tt)
+
+p8-other : (n : ℕ) → not (eqb n 116) ≡ true → Ours (answers (headerSize is 32 ∷ length is n ∷ []) 4)
+unfolding infoRules
+p8-other n e info f h = after 3 info h ∙ broke _ _ (rw (f .0, f .1 .0) e)
+
+p9 : (n : ℕ) → badHeaderSize n ≡ true → Ours (answers (headerSize is n ∷ []) 3)
+unfolding infoRules
+p9 n e info f h = after 2 info h ∙ broke _ _ (rw (f .0) e)
+
+p10 : (x count : ℕ) → badName 140 x ≡ false → 140 - 32 - x ≡ count
+    → Ours (names (headerSize is 140 ∷ length is 224 ∷ sizeExtra is x ∷ []) count)
+unfolding infoRules badHeaderSize described
+p10 x count e c info f h = (
+  past 5 3 info (lit< tt) tt (h .0 and h .1 .0 and (rw (f .0)) and (rw (f .0, f .1 .0)) and (rw (f .0, f .1 .1 .0) e) and tt),
+  λ z. rw (parsed-fields info (sym (parsed-answer info) ∙ z)) (rw (f .0, f .1 .1 .0) c),
+)
+
+p11 : (x : ℕ) → badName 140 x ≡ true → Ours (answers (headerSize is 140 ∷ length is 224 ∷ sizeExtra is x ∷ []) 5)
+unfolding infoRules
+p11 x e info f h = after 4 info h ∙ broke _ _ (rw (f .0, f .1 .1 .0) e)
+
+p12 : Ours (answers (algId is 0x660f ∷ keySize is 128 ∷ []) 8)
+unfolding infoRules suiteOf
+p12 info f h = after 7 info h ∙ broke _ _ (rw (f .0, f .1 .0))
+
+-- ---- the table
+
+pub cases : Every parsed judged opened sealed table
+unfolding least badHeaderSize badName
+cases =
+    seals-row 0 0 refl (lit≤ tt)  -- P1
+    and seals-row 1 15 refl (lit≤ tt)  -- P2
+    and seals-row 15 1 refl (lit≤ tt)  -- P3
+    and seals-row 16 0 refl (lit≤ tt)  -- P4
+    and seals-row 17 15 refl (lit≤ tt)  -- P5
+    and seals-row 4096 0 refl (lit≤ tt)  -- P6
+    and seals-row 268435456 0 refl (lit≤ tt)  -- P7
+    and refuses-row 268435457 (lit< tt)
+    and p8  -- P8
+    and p8-other 115 refl
+    and p8-other 117 refl
+    and p9 31 refl  -- P9
+    and p9 4097 refl
+    and p10 0 108 refl refl  -- P10
+    and p10 108 0 refl refl
+    and p11 107 refl  -- P11
+    and p11 109 refl
+    and p12  -- P12
+    and tt

@@ -1,0 +1,139 @@
+-- A sealer and an opener that copy without encrypting keep demand 3: an operation that does nothing is reversible. What stops them is
+-- demand 2, which says by which operation: they would keep it only if AES left every block as it is. Assumes nothing.
+use mathlib.Core.Path.{_≡_, refl, sym, ap, _∙_}
+use mathlib.Core.List.{List}
+use Prim.Native.Nat.{ℕ, _+_, _-_, _≤_}
+use native.Mathlib.Omega.{arith}
+use lib.Dec.{lit<}
+use lib.ListN.{length, take, drop, replicate, length-drop}
+use lib.Seq.{take-at, take-all, length-take-le}
+use Rattle.octets.specs.Octets.{Bytes}
+use Rattle.answers.specs.Rules.{firstOf}
+use Rattle.aes.specs.Aes.{decryption}
+use Rattle.password.specs.Verdict.{judged}
+use Rattle.blocks.specs.Stream.{Undone}
+use Rattle.blocks.specs.Blocks.{whole}
+use Rattle.sheet.specs.Frame.{Pair, Lawful, Admitted, Sound, Inverse, streamSize, streamOf, pairOf}
+use Rattle.sheet.specs.Sheet.{limit, lengths, rounded, sealedSize, openRules, sealRules, filledWith, Left, ended}
+use Rattle.sheet.proofs.Frame.{inverse, one-pair, length-streamOf, size-streamOf, length-pack}
+use Rattle.sheet.proofs.Lengths.{allowed-whole, Openable, openable, openable-admitted, admitted-openable, Sealable, sealable}
+use Rattle.sheet.proofs.Laws.{ended-answer, open-answer, open-done, open-zero, seal-answer, seal-done, seal-zero, filling-least, filled-begins}
+use Rattle.promises.specs.Words.{Parser, Judge, Opener, Sealer, Accepted, gives, publishedKey}
+use Rattle.promises.specs.Two.{Demand2}
+use Rattle.promises.specs.Three.{Begins, Demand3}
+use Rattle.promises.proofs.Inverts.{Own, Inverts, exact}
+use Rattle.promises.proofs.Wrong.{OpensBy, other-opening}
+
+same : List ℕ → List ℕ
+same s = s
+
+-- they answer as ours, and frame as ours
+pub copies-out : Opener
+copies-out info password s out = ended (firstOf (openRules info password s (length out))) (streamSize s) (pairOf same s .pack) out
+
+pub copies-in : Sealer
+copies-in info password pack given out =
+    ended (firstOf (sealRules info password (length pack) (length out))) (sealedSize (length pack)) (streamOf same (filledWith pack given)) out
+
+undone : Undone whole same same
+unfolding same
+undone = record { long = λ s f. refl; bytes = λ s f. f .bytes; undo = λ s f. refl }
+
+sound : Sound lengths whole same same
+unfolding lengths limit
+sound = record { reversible = record { forth = undone; home = undone }; fitting = λ size n h e. allowed-whole size n e; held = lit< tt }
+
+inverted : Inverse lengths same same
+inverted = inverse lengths whole same same sound
+
+long : (p : Pair) → Lawful lengths p → length (streamOf same p) ≡ 8 + (length (p .pack) + length (p .fill))
+long p w = length-streamOf lengths whole same same sound p w
+
+size-is : (p : Pair) → Lawful lengths p → sealedSize (length (p .pack)) ≡ length (streamOf same p)
+unfolding sealedSize rounded
+size-is p w = rw (long p w, filling-least p w)
+
+module _ (info password : List ℕ) where
+  -- an accepted copy is a call that ours accepts
+  open-taken : (s out : List ℕ) → Accepted (copies-out info password s out) → Openable s (length out)
+  unfolding copies-out
+  open-taken s out h =
+      open-zero info password s out (open-answer info password s out ∙ sym (ended-answer _ (streamSize s) (pairOf same s .pack) out) ∙ h) .1
+
+  seal-taken : (pack given out : List ℕ) → Accepted (copies-in info password pack given out) → Sealable (length pack) (length out)
+  unfolding copies-in
+  seal-taken pack given out h =
+      let a = ended-answer _ (sealedSize (length pack)) (streamOf same (filledWith pack given)) out in
+      seal-zero info password pack given out (seal-answer info password pack given out ∙ sym a ∙ h) .1
+
+  room : (p : Pair) → Lawful lengths p → (given out : List ℕ) → Accepted (copies-in info password (p .pack) given out)
+      → length (streamOf same p) ≤ length out
+  room p w given out h = rw (← size-is p w) (seal-taken (p .pack) given out h .roomy)
+
+  own : (s out : List ℕ) → Bytes s → Accepted (copies-out info password s out) → Own (streamOf same) s out (pairOf same s)
+  own s out b h =
+      let k = open-taken s out h in
+      let a : Admitted lengths s = openable-admitted s (length out) b k in
+      record {
+        lawful = inverted .lawful s a;
+        again = inverted .stream-again s a;
+        room = rw (length-pack lengths whole same same sound s a) (k .roomy);
+      }
+
+  module _ (v : judged info password ≡ 0) where
+    seals-to : (p : Pair) → Lawful lengths p → (given out : List ℕ) → Begins p given → length (streamOf same p) ≤ length out
+        → copies-in info password (p .pack) given out ≡ gives (streamOf same p) out
+    unfolding copies-in lengths ended
+    seals-to p w given out g h =
+        let k : Sealable (length (p .pack)) (length out) = record { limited = w .limited; roomy = rw (size-is p w) h } in
+        let z : firstOf (sealRules info password (length (p .pack)) (length out)) ≡ 0 =
+        sym (seal-answer info password (p .pack) given out)
+        ∙ ap (λ (l : Left). l .reply .answer) (seal-done info password (p .pack) given out v (sealable (length (p .pack)) (length out) .1 k)) in
+        rw (z, filled-begins p w given (g .begins), size-is p w)
+
+    opens-to : (p : Pair) → Lawful lengths p → (out : List ℕ) → length (p .pack) ≤ length out
+        → copies-out info password (streamOf same p) out ≡ gives (p .pack) out
+    unfolding copies-out ended
+    opens-to p w out h =
+        let s : List ℕ = streamOf same p in
+        let n : streamSize s ≡ length (p .pack) = size-streamOf lengths whole same same sound p w in
+        let k : Openable s (length out) = admitted-openable s (length out) (inverted .admitted p w) (rw n h) in
+        let z : firstOf (openRules info password s (length out)) ≡ 0 =
+        sym (open-answer info password s out)
+        ∙ ap (λ (l : Left). l .reply .answer) (open-done info password s out v (openable s (length out) .1 k)) in
+        rw (z, n, inverted .pair-again p w)
+
+    inverts : Inverts copies-out copies-in info password
+    unfolding copies-in filledWith
+    inverts =
+        record {
+          stream = streamOf same;
+          own = pairOf same;
+          long = long;
+          once = one-pair lengths same same inverted;
+          seals-to = seals-to;
+          opens-to = opens-to;
+          sealed-room = room;
+          opened-own = own;
+          alike = λ pack given other out e. rw e;
+        }
+
+pub copies-keep-3 : Demand3 judged copies-out copies-in
+copies-keep-3 = record { under = λ info password v. exact copies-out copies-in info password (inverts info password v) }
+
+-- on the calls that are to be accepted the copy writes what stands in the stream
+copy-opens : OpensBy copies-out (λ info password ciphertext. ciphertext)
+unfolding copies-out ended pairOf same rounded
+copy-opens info password s out a =
+    let k : Openable s (length out) = open-zero info password s out a .1 in
+    let z : firstOf (openRules info password s (length out)) ≡ 0 = sym (open-answer info password s out) ∙ a in
+    let n : length (drop 8 s) ≡ length s - 8 = length-drop 8 s in
+    let r : length (take (streamSize s) (drop 8 s)) ≡ streamSize s = length-take-le (streamSize s) (drop 8 s) (omega (arith, k .long)) in
+    rw z (take-at (take (streamSize s) (drop 8 s)) (replicate (length out - streamSize s) 0) (streamSize s) r)
+
+-- so they keep demand 2 only where AES under every accepted key leaves every block as it is
+pub copies-keep-2-only : (parses : Parser) (judges : Judge) (seals : Sealer) → Demand2 parses judges copies-out seals
+    → (info password c : List ℕ) → judged info password ≡ 0 → length c ≡ 16 → decryption (publishedKey info password) c ≡ c
+copies-keep-2-only parses judges seals two info password c v n =
+    sym (other-opening parses judges copies-out seals two (λ info password ciphertext. ciphertext) copy-opens info password c v n)
+    ∙ take-all 16 c (omega arith)

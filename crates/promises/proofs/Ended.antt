@@ -1,0 +1,30 @@
+-- What a call leaves, read field by field: an entry with an output answers by a list of rules and ends by `ended`. Assumes nothing.
+use mathlib.Core.Path.{_≡_, refl}
+use mathlib.Core.List.{List}
+use Prim.Native.Nat.{ℕ, zero, suc, _-_, _≤_}
+use native.Mathlib.Omega.{arith}
+use lib.Dec.{T}
+use lib.ListN.{length, replicate}
+use lib.Seq.{take-at}
+use Rattle.answers.specs.Rules.{Rule, firstOf, numbered, OneOf}
+use Rattle.answers.proofs.Laws.{none-broken, first-broken}
+use Rattle.sheet.specs.Sheet.{ended}
+use Rattle.promises.specs.Words.{Answers, written, gives}
+use Rattle.promises.specs.One.{Call}
+
+-- a call keeps demand 1 if its answer is listed and, where that is 0, its content is of its size and has room
+pub ended-call : (numbers : List ℕ) (n size : ℕ) (content out : List ℕ) → OneOf numbers n
+    → (n ≡ 0 → (size ≡ length content) × (size ≤ length out)) → Call numbers content out (ended n size content out)
+unfolding ended
+ended-call numbers zero size content out o r =
+    record { answer = o; refused = λ h. absurd (h refl); accepted = λ h. record { size = r refl .0; room = r refl .1; bytes = refl } }
+ended-call numbers (suc n) size content out o r =
+    record { answer = o; refused = λ h. record { size = refl; bytes = refl }; accepted = λ h. absurd (omega arith) }
+
+-- the first broken rule's number is the answer by the rules
+pub by-rules : (rs : List Rule) → T (numbered rs) → Answers rs (firstOf rs)
+by-rules rs t = record { none = none-broken rs t; first = λ m p. first-broken m rs p }
+
+-- what a call wrote that gives a content
+pub wrote : (content out : List ℕ) → written (gives content out) ≡ content
+wrote content out = take-at content (replicate (length out - length content) 0) (length content) refl

@@ -1,0 +1,74 @@
+-- Demands 1 and 2 leave nothing open: whoever keeps them is the entry itself, for every input. Assumes nothing.
+use mathlib.Core.Path.{_≡_, refl, sym, ap, _∙_}
+use mathlib.Core.List.{List, _++_}
+use Prim.Native.Nat.{ℕ, zero, suc, _-_}
+use native.Mathlib.Omega.{arith}
+use lib.ListN.{length, replicate}
+use Rattle.answers.specs.Rules.{Rule}
+use Rattle.descriptor.specs.Info.{infoRules, parsed}
+use Rattle.password.specs.Verdict.{judged, verdictRules}
+use Rattle.sheet.specs.Sheet.{Left, left, reply, openRules, sealRules, packageOf, filledWith, sealingOf, opened, sealed}
+use Rattle.promises.specs.Words.{Parser, Judge, Opener, Sealer, Answers}
+use Rattle.promises.specs.One.{Call, Demand1, openNumbers, sealNumbers}
+use Rattle.promises.specs.Two.{Demand2}
+use Rattle.promises.proofs.One.{demand-1}
+use Rattle.promises.proofs.Two.{demand-2}
+
+-- one list of rules gives one answer
+pub one-answer : (rs : List Rule) (n m : ℕ) → Answers rs n → Answers rs m → n ≡ m
+one-answer rs zero m a b = sym (b .none .1 (a .none .0 refl))
+one-answer rs (suc n) m a b = sym (b .first (suc n) (omega arith) .1 (a .first (suc n) (omega arith) .0 refl))
+
+-- a call is fixed by its answer, its content and its output
+module _ (numbers content out : List ℕ) (x y : Left) (c : Call numbers content out x) (d : Call numbers content out y)
+    (e : x .reply .answer ≡ y .reply .answer) where
+  alike : x .reply .size ≡ y .reply .size → x .out ≡ y .out → x ≡ y
+  alike s o = λ i. left (reply (e i) (s i)) (o i)
+
+  by-answer : (n : ℕ) → x .reply .answer ≡ n → x ≡ y
+  by-answer zero z =
+      let p = c .accepted z in
+      let q = d .accepted (sym e ∙ z) in
+      let s : x .reply .size ≡ y .reply .size = p .size ∙ sym (q .size) in
+      alike s (p .bytes ∙ ap (λ (n : ℕ). content ++ replicate (length out - n) 0) s ∙ sym (q .bytes))
+  by-answer (suc n) z =
+      let p = c .refused (λ w. omega arith) in
+      let q = d .refused (λ w. omega arith) in
+      alike (p .size ∙ sym (q .size)) (p .bytes ∙ sym (q .bytes))
+
+  one-left : x ≡ y
+  one-left = by-answer (x .reply .answer) refl
+
+module _ (parses : Parser) (judges : Judge) (opens : Opener) (seals : Sealer)
+    (one : Demand1 parses judges opens seals) (two : Demand2 parses judges opens seals) where
+  pub the-judge : (info password : List ℕ) → judges info password ≡ judged info password
+  the-judge info password = one-answer (verdictRules info password) _ _ (two .verdict-answer info password) (demand-2 .verdict-answer info password)
+
+  module _ (info : List ℕ) where
+    same-answer : parses info .answer ≡ parsed info .answer
+    same-answer = one-answer (infoRules info) _ _ (two .parse-answer info) (demand-2 .parse-answer info)
+
+    same-fields : (n : ℕ) → parses info .answer ≡ n → parses info .fields ≡ parsed info .fields
+    same-fields zero z =
+        let h = two .parse-answer info .none .0 z in
+        two .descriptor info h ∙ sym (demand-2 .descriptor info h)
+    same-fields (suc n) z =
+        one .parsing info .refused (λ w. omega arith) ∙ sym (demand-1 .parsing info .refused (λ w. omega (arith, same-answer)))
+
+    pub the-parser : parses info ≡ parsed info
+    the-parser = λ i. record { answer = same-answer i; fields = same-fields (parses info .answer) refl i }
+
+  pub the-opener : (info password stream out : List ℕ) → opens info password stream out ≡ opened info password stream out
+  the-opener info password s out =
+      let e : opens info password s out .reply .answer ≡ opened info password s out .reply .answer =
+      one-answer (openRules info password s (length out)) _ _ (two .open-answer info password s out) (demand-2 .open-answer info password s out) in
+      one-left openNumbers (packageOf info password s) out _ _ (one .opening info password s out) (demand-1 .opening info password s out) e
+
+  pub the-sealer : (info password pack given out : List ℕ) → length given ≡ 16
+      → seals info password pack given out ≡ sealed info password pack given out
+  the-sealer info password pack given out g =
+      let e : seals info password pack given out .reply .answer ≡ sealed info password pack given out .reply .answer =
+      one-answer (sealRules info password (length pack) (length out)) _ _
+      (two .seal-answer info password pack given out g) (demand-2 .seal-answer info password pack given out g) in
+      one-left sealNumbers (sealingOf info password (filledWith pack given)) out _ _
+      (one .sealing info password pack given out g) (demand-1 .sealing info password pack given out g) e

@@ -1,0 +1,83 @@
+-- Demand 3 under one descriptor and password, from what any opener and sealer have to show for it: a stream for each pair, a pair for
+-- each stream, and that the calls go by them. Assumes nothing.
+use mathlib.Core.Path.{_≡_, refl, sym, ap, _∙_}
+use mathlib.Core.List.{List}
+use Prim.Native.Nat.{ℕ, _+_, _≤_}
+use lib.ListN.{length, take}
+use Rattle.octets.specs.Octets.{Bytes}
+use Rattle.sheet.specs.Frame.{Pair, Lawful}
+use Rattle.sheet.specs.Sheet.{lengths, least}
+use Rattle.promises.specs.Words.{Opener, Sealer, Accepted, written, gives}
+use Rattle.promises.specs.Three.{Begins, Seals, Sealed, Round, Only, Exact}
+use Rattle.promises.proofs.Ended.{wrote}
+
+-- what a stream that opens tells
+pub record Own (stream : Pair → List ℕ) (s out : List ℕ) (p : Pair) : Type 0 where
+  pub lawful : Lawful lengths p
+  pub again : stream p ≡ s
+  pub room : length (p .pack) ≤ length out
+
+pub record Inverts (opens : Opener) (seals : Sealer) (info password : List ℕ) : Type 0 where
+  pub stream : Pair → List ℕ
+  pub own : List ℕ → Pair
+  pub long : (p : Pair) → Lawful lengths p → length (stream p) ≡ 8 + (length (p .pack) + length (p .fill))
+  pub once : (p q : Pair) → Lawful lengths p → Lawful lengths q → stream p ≡ stream q → p ≡ q
+  pub seals-to : (p : Pair) → Lawful lengths p → (given out : List ℕ) → Begins p given → length (stream p) ≤ length out
+      → seals info password (p .pack) given out ≡ gives (stream p) out
+  pub opens-to : (p : Pair) → Lawful lengths p → (out : List ℕ) → length (p .pack) ≤ length out
+      → opens info password (stream p) out ≡ gives (p .pack) out
+  pub sealed-room : (p : Pair) → Lawful lengths p → (given out : List ℕ) → Accepted (seals info password (p .pack) given out)
+      → length (stream p) ≤ length out
+  pub opened-own : (s out : List ℕ) → Bytes s → Accepted (opens info password s out) → Own stream s out (own s)
+  pub alike : (pack given other out : List ℕ) → take (least (length pack)) given ≡ take (least (length pack)) other
+      → seals info password pack given out ≡ seals info password pack other out
+
+module _ (opens : Opener) (seals : Sealer) (info password : List ℕ) (v : Inverts opens seals info password) where
+  module _ (p : Pair) (w : Lawful lengths p) where
+    into : (s : List ℕ) → v .stream p ≡ s → Seals seals info password p s
+    into s e = record { always = λ given out g h. v .seals-to p w given out g (rw e h) ∙ ap (λ (x : List ℕ). gives x out) e }
+
+    round : Round opens seals info password p
+    round =
+        record {
+          stream = v .stream p;
+          long = v .long p w;
+          sealing = into (v .stream p) refl;
+          opening = record { always = λ out h. v .opens-to p w out h };
+        }
+
+    -- an accepted call wrote the pair's stream
+    sealed-is : (s : List ℕ) → Sealed seals info password p s → v .stream p ≡ s
+    sealed-is s c =
+        let e = v .seals-to p w (c .given) (c .out) (c .begins) (v .sealed-room p w (c .given) (c .out) (c .accepted)) in
+        sym (wrote (v .stream p) (c .out)) ∙ sym (ap written e) ∙ c .wrote
+
+  -- an accepted opening wrote the package of the stream's own pair
+  module _ (s out : List ℕ) (b : Bytes s) (h : Accepted (opens info password s out)) where
+    mine : Own (v .stream) s out (v .own s)
+    mine = v .opened-own s out b h
+
+    came-out : v .own s .pack ≡ written (opens info password s out)
+    came-out =
+        let e : opens info password s out ≡ gives (v .own s .pack) out =
+        ap (λ (x : List ℕ). opens info password x out) (sym (mine .again)) ∙ v .opens-to (v .own s) (mine .lawful) out (mine .room) in
+        sym (ap written e ∙ wrote (v .own s .pack) out)
+
+    only : Only seals info password s (written (opens info password s out))
+    only =
+        record {
+          it = v .own s;
+          lawful = mine .lawful;
+          came-out = came-out;
+          sealing = into (v .own s) (mine .lawful) s (mine .again);
+          one = λ q x c. v .once q (v .own s) x (mine .lawful) (sealed-is q x s c ∙ sym (mine .again));
+        }
+
+  pub exact : Exact opens seals info password
+  exact =
+      record {
+        a = λ p w. round p w;
+        b = λ p q w x s c d. v .once p q w x (sealed-is p w s c ∙ sym (sealed-is q x s d));
+        c = λ s out b h. only s out b h;
+        d = λ pack given other out g f e. v .alike pack given other out e;
+      }

@@ -1,0 +1,6 @@
+pub mod Words
+pub mod One
+pub mod Two
+pub mod Three
+pub mod Cases
+pub mod Possible

@@ -1,0 +1,62 @@
+-- None of the promises holds for want of an instance: what each of them takes for granted can be had. Assumes nothing.
+use mathlib.Core.Path.{_≡_}
+use mathlib.Core.List.{List, [], _∷_}
+use Prim.Native.Nat.{ℕ, _≤_}
+use lib.ListN.{length}
+use Rattle.octets.specs.Octets.{Bytes}
+use Rattle.answers.specs.Rules.{OneOf}
+use Rattle.descriptor.specs.Info.{keySize}
+use Rattle.sheet.specs.Frame.{Pair, Lawful, streamSize}
+use Rattle.sheet.specs.Sheet.{lengths}
+use Rattle.promises.specs.Words.{Parser, Judge}
+use Rattle.promises.specs.Three.{Begins}
+use Rattle.promises.specs.Cases.{Case, seals, refuses, answers, passes, names, table, Fits, Before}
+
+-- an EncryptionInfo whose key has so many bits, and which accepts the password
+pub record Locks (judges : Judge) (bits : ℕ) (password : List ℕ) : Type 0 where
+  pub info : List ℕ
+  pub bytes : Bytes info
+  pub size : keySize info ≡ bits
+  pub verdict : judges info password ≡ 0
+
+-- a lawful pair whose package has so many bytes, and a value that begins with its filling
+pub record Fills (size : ℕ) : Type 0 where
+  pub it : Pair
+  pub lawful : Lawful lengths it
+  pub sized : length (it .pack) ≡ size
+  pub given : List ℕ
+  pub begins : Begins it given
+
+-- a list of so many bytes
+pub record Long (n : ℕ) : Type 0 where
+  pub it : List ℕ
+  pub bytes : Bytes it
+  pub long : length it ≡ n
+
+-- a stream of eight bytes or more, whose StreamSize is this
+pub record Told (size : ℕ) : Type 0 where
+  pub it : List ℕ
+  pub bytes : Bytes it
+  pub headed : 8 ≤ length it
+  pub told : streamSize it ≡ size
+
+module _ (parses : Parser) where
+  -- what a row of the table takes for granted, beside an accepted password; where it speaks of a name, nothing objects
+  abbrev pub Instance : Case → Type 0
+  Instance (seals size stream filling) = Fills size × Long stream
+  Instance (refuses size answer) = Long size × Told size
+  Instance (answers facts answer) = (info : List ℕ) × Fits info facts × Before answer info
+  Instance (passes facts low high) = (info : List ℕ) × Fits info facts × Before low info
+  Instance (names facts count) = (info : List ℕ) × Fits info facts × Before 3 info × (parses info .answer ≡ 0)
+
+  abbrev pub Instances : List Case → Type 0
+  Instances [] = Unit
+  Instances (c ∷ cs) = Instance c × Instances cs
+
+pub record Possible (parses : Parser) (judges : Judge) : Type 0 where
+  -- for each key size, every password of at most 255 units is accepted by some EncryptionInfo
+  pub locks : (bits : ℕ) → OneOf (128 ∷ 192 ∷ 256 ∷ []) bits → (password : List ℕ) → length password ≤ 255 → Locks judges bits password
+  -- every size within the limit is that of some pair
+  pub fills : (size : ℕ) → size ≤ 268435456 → Fills size
+  -- every row of the table P1 to P12 has an instance
+  pub rows : Instances parses table

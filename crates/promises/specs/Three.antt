@@ -1,0 +1,69 @@
+-- Demand 3. Fix an admitted descriptor and a password that it accepts. Every package within the limit, with every filling of its last
+-- block, seals into a stream that opens to that package. Two pairs of package and filling never seal alike, and every stream that opens
+-- is the sealing of exactly one. A pair is lawful where both parts are bytes, the package is of at most 268,435,456 and the filling
+-- exactly as long as needed. Assumes nothing.
+use mathlib.Core.Path.{_≡_}
+use mathlib.Core.List.{List}
+use Prim.Native.Nat.{ℕ, _+_, _≤_}
+use lib.ListN.{length, take}
+use Rattle.octets.specs.Octets.{Bytes}
+use Rattle.sheet.specs.Frame.{Pair, Lawful}
+use Rattle.sheet.specs.Sheet.{lengths, least}
+use Rattle.promises.specs.Words.{Judge, Opener, Sealer, Accepted, written, gives}
+
+-- a sixteen-byte value that begins with the pair's filling
+pub record Begins (p : Pair) (given : List ℕ) : Type 0 where
+  pub sixteen : length given ≡ 16
+  pub begins : take (length (p .fill)) given ≡ p .fill
+
+-- the stream opens to the package, in every output that has room
+pub record Opens (opens : Opener) (info password stream pack : List ℕ) : Type 0 where
+  pub always : (out : List ℕ) → length pack ≤ length out → opens info password stream out ≡ gives pack out
+
+module _ (seals : Sealer) (info password : List ℕ) (p : Pair) (stream : List ℕ) where
+  -- the pair seals into the stream, with every value that begins with its filling and in every output that has room
+  pub record Seals : Type 0 where
+    pub always : (given out : List ℕ) → Begins p given → length stream ≤ length out
+        → seals info password (p .pack) given out ≡ gives stream out
+
+  -- some call seals the pair into the stream
+  pub record Sealed : Type 0 where
+    pub given : List ℕ
+    pub out : List ℕ
+    pub begins : Begins p given
+    pub accepted : Accepted (seals info password (p .pack) given out)
+    pub wrote : written (seals info password (p .pack) given out) ≡ stream
+
+-- the stream that a pair seals into, as long as it has to be, and that opens to its package
+pub record Round (opens : Opener) (seals : Sealer) (info password : List ℕ) (p : Pair) : Type 0 where
+  pub stream : List ℕ
+  pub long : length stream ≡ 8 + (length (p .pack) + length (p .fill))
+  pub sealing : Seals seals info password p stream
+  pub opening : Opens opens info password stream (p .pack)
+
+-- the pair that a stream is the sealing of, whose package is what an opening wrote; and there is no other
+pub record Only (seals : Sealer) (info password stream pack : List ℕ) : Type 0 where
+  pub it : Pair
+  pub lawful : Lawful lengths it
+  pub came-out : it .pack ≡ pack
+  pub sealing : Seals seals info password it stream
+  pub one : (q : Pair) → Lawful lengths q → Sealed seals info password q stream → q ≡ it
+
+-- what is asked under one descriptor and one password
+pub record Exact (opens : Opener) (seals : Sealer) (info password : List ℕ) : Type 0 where
+  -- (a) every pair seals into a stream that opens to its package
+  pub a : (p : Pair) → Lawful lengths p → Round opens seals info password p
+  -- (b) two pairs that seal alike are the same pair
+  pub b : (p q : Pair) → Lawful lengths p → Lawful lengths q
+      → (stream : List ℕ) → Sealed seals info password p stream → Sealed seals info password q stream → p ≡ q
+  -- (c) every stream of bytes that opens is the sealing of exactly one pair
+  pub c : (stream out : List ℕ) → Bytes stream → Accepted (opens info password stream out)
+      → Only seals info password stream (written (opens info password stream out))
+  -- (d) two values that agree in the bytes that are needed seal alike; (a) to (c) are said of every value that begins with a filling
+  pub d : (pack given other out : List ℕ) → length given ≡ 16 → length other ≡ 16
+      → take (least (length pack)) given ≡ take (least (length pack)) other
+      → seals info password pack given out ≡ seals info password pack other out
+
+-- under every descriptor and every password that it accepts: a verdict of 0 says both
+pub record Demand3 (judges : Judge) (opens : Opener) (seals : Sealer) : Type 0 where
+  pub under : (info password : List ℕ) → judges info password ≡ 0 → Exact opens seals info password

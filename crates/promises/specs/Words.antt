@@ -1,0 +1,53 @@
+-- The words that the promises are written in. An entry is a function from all that comes in to all that is left, so a promise can be
+-- made by ours, `parsed`, `judged`, `opened` and `sealed`, or asked of any other. Assumes nothing.
+use mathlib.Core.Path.{_≡_}
+use mathlib.Core.Logic.{_↔_}
+use mathlib.Core.List.{List, _++_}
+use Prim.Native.Nat.{ℕ, _-_, _/_, _<_}
+use lib.ListN.{length, take, replicate}
+use Rattle.answers.specs.Rules.{Rule, AllHold, First}
+use Rattle.descriptor.specs.Info.{keySize, saltOf}
+use Rattle.descriptor.specs.declared.Parsed.{Parsed}
+use Rattle.password.specs.Key.{keyBytes}
+use Rattle.sheet.specs.Sheet.{Left, left, reply}
+
+-- ---- the entries
+
+-- EncryptionInfo gives an answer and the fields of a descriptor
+abbrev pub Parser : Type 0
+Parser = (info : List ℕ) → Parsed
+
+-- EncryptionInfo and a password give an answer
+abbrev pub Judge : Type 0
+Judge = (info password : List ℕ) → ℕ
+
+-- EncryptionInfo, a password, a package stream and the output as it was give an answer, a size and the output as it is left
+abbrev pub Opener : Type 0
+Opener = (info password stream out : List ℕ) → Left
+
+-- the same from a package, and sixteen bytes given to fill its last block
+abbrev pub Sealer : Type 0
+Sealer = (info password pack given out : List ℕ) → Left
+
+-- ---- what is said of them
+
+-- the call is answered 0
+abbrev pub Accepted : Left → Type 0
+Accepted l = l .reply .answer ≡ 0
+
+-- what an accepted call wrote: as many bytes of the output as its size says
+abbrev pub written : Left → List ℕ
+written l = take (l .reply .size) (l .out)
+
+-- what a call leaves that gives a content: answer 0, the content's size, the content, and zeros to the end of the output
+abbrev pub gives : (content out : List ℕ) → Left
+gives content out = left (reply 0 (length content)) (content ++ replicate (length out - length content) 0)
+
+-- n is the answer by the rules: 0 exactly where none is broken, and m above 0 exactly where the first one broken is numbered m
+pub record Answers (rules : List Rule) (n : ℕ) : Type 0 where
+  pub none : (n ≡ 0) ↔ AllHold rules
+  pub first : (m : ℕ) → 0 < m → (n ≡ m) ↔ First m rules
+
+-- the key of the published derivation: from the salt and the password, as many bytes as KeySize counts bits for
+abbrev pub publishedKey : (info password : List ℕ) → List ℕ
+publishedKey info password = keyBytes (keySize info / 8) (saltOf info) password

@@ -1,0 +1,3 @@
+// The three demands and the cases P1 to P12 of 01, as theorems over the entries' own definitions. There is no code here: specs/ says
+// what is promised, in the order Words, One, Two, Three, Cases, Possible; proofs/ proves it, and shows that the promises leave nothing
+// open, that wrong entries break them, and that none of them holds for want of an instance.
