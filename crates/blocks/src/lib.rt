@@ -66,8 +66,9 @@ fn decrypt_with(
     let mut i = 0;
     while i < size {
         let n = part(size - i);
-        let b = rounds::inv_cipher(w, rounds, table, block(src, i));
-        octets::copy(&b, 0, n, out, i);
+        let sealed = block(src, i);
+        let plain = rounds::inv_cipher(w, rounds, table, sealed);
+        octets::copy(&plain, 0, n, out, i);
         i += n;
     }
 }
@@ -101,8 +102,9 @@ fn encrypt_with(
 {
     let mut i = 0;
     while i < size {
-        let b = rounds::cipher(w, rounds, table, filled_block(contents, filling, i));
-        octets::copy(&b, 0, 16, out, at + i);
+        let plain = filled_block(contents, filling, i);
+        let sealed = rounds::cipher(w, rounds, table, plain);
+        octets::copy(&sealed, 0, 16, out, at + i);
         i += 16;
     }
 }

@@ -8,10 +8,14 @@
 //
 // Warning: AES in ECB mode lets equal blocks be seen to be equal, and nothing here tells whether a stream was changed.
 ghost use mathlib.Core.Path.{_≡_};
-ghost use Prim.Native.Nat.{_≤_};
+ghost use mathlib.Core.Bool.{not};
+ghost use Prim.Native.Nat.{_-_, _≤_};
+ghost use lib.Dec.{eqb};
+ghost use lib.ListN.{length};
+ghost use Rattle.octets.specs.Octets.{leAt, zeroFrom};
 ghost use Rattle.answers.specs.Rules.{firstOf};
 ghost use Rattle.sheet.specs.Sheet as Sheet;
-ghost use Rattle.sheet.specs.Sheet.{left, opened, sealed};
+ghost use Rattle.sheet.specs.Sheet.{left, reply, opened, sealed};
 
 // The most bytes of a package.
 const LIMIT: usize = 268435456;
@@ -30,22 +34,64 @@ fn rounded(size: usize) -> usize
     size + (16 - size % 16) % 16
 }
 
+// StreamSize: all eight bytes, so that no larger size passes for a smaller one.
+fn stream_size(stream: &[u8]) -> usize
+    ensures { λ r. ⌜ r ≡ leAt 8 0 (now (stream .entry)) ⌝ }
+{
+    octets::le64(stream, 0) as usize
+}
+
+// The reply of a call that writes nothing.
+fn refused(answer: u16) -> Reply
+    ensures { λ r. ⌜ r ≡ reply answer 0 ⌝ }
+{
+    Reply { answer, size: 0 }
+}
+
+// The reply of a call that has written `size` bytes, and zeros after them.
+fn done(size: usize, out: &mut [u8]) -> Reply
+    ensures { λ r. ⌜ (r ≡ reply 0 size) × (now (out .exit) ≡ zeroFrom size (now (out .entry))) ⌝ }
+{
+    octets::zero_from(out, size);
+    Reply {
+        answer: answers::DONE,
+        size,
+    }
+}
+
+// How many bytes stand after the first eight.
+fn ciphertext(stream: &[u8]) -> usize
+    ensures { λ r. ⌜ r ≡ length (now (stream .entry)) - 8 ⌝ }
+{
+    if stream.len() < 8 {
+        return 0;
+    }
+    stream.len() - 8
+}
+
+// Whether n bytes are other than `size` rounded up to a multiple of 16. Nothing is rounded, so that no size wraps.
+fn bad_ciphertext(n: usize, size: usize) -> bool
+    ensures { λ r. ⌜ r ≡ not (eqb n (Sheet.rounded size)) ⌝ }
+{
+    if n < size {
+        return true;
+    }
+    if 16 <= n - size {
+        return true;
+    }
+    n % 16 != 0
+}
+
 // The first of the rules 13 to 16 that a stream breaks, given the room of the output; 0 where it breaks none.
 fn stream_answer(stream: &[u8], room: usize) -> u16
     ensures { λ r. ⌜ r ≡ firstOf (Sheet.streamRules (now (stream .entry)) room) ⌝ }
 {
-    if stream.len() < 8 {
-        return answers::STREAM_SHORT;
-    }
-    let size = octets::le64(stream, 0) as usize;
-    if LIMIT < size {
-        return answers::STREAM_SIZE;
-    }
-    let rest = stream.len() - 8;
-    if rest != rounded(size) {
-        return answers::STREAM_LENGTH;
-    }
-    answers::first(room < size, answers::ROOM, answers::DONE)
+    let size = stream_size(stream);
+    let bad = bad_ciphertext(ciphertext(stream), size);
+    let rest = answers::first(room < size, answers::ROOM, answers::DONE);
+    let rest = answers::first(bad, answers::STREAM_LENGTH, rest);
+    let rest = answers::first(LIMIT < size, answers::STREAM_SIZE, rest);
+    answers::first(stream.len() < 8, answers::STREAM_SHORT, rest)
 }
 
 // The first of the rules 14 and 16 that a package of that size breaks, given the room of the output; 0 where it breaks none.
@@ -65,20 +111,16 @@ pub fn open(info: &[u8], password: &[u16], stream: &[u8], out: &mut [u8]) -> Rep
     let u = password::unlock(info, password);
     let a = u.answer;
     if a != answers::DONE {
-        return Reply { answer: a, size: 0 };
+        return refused(a);
     }
     let b = stream_answer(stream, out.len());
     if b != answers::DONE {
-        return Reply { answer: b, size: 0 };
+        return refused(b);
     }
-    let size = octets::le64(stream, 0) as usize;
+    let size = stream_size(stream);
     let key = u.key;
     blocks::decrypt(key, &stream[8..], size, out);
-    octets::zero_from(out, size);
-    Reply {
-        answer: answers::DONE,
-        size,
-    }
+    done(size, out)
 }
 
 // Seals a package into out under an existing descriptor, its last block filled with the first of the filling bytes.
@@ -94,21 +136,16 @@ pub fn seal(
     let u = password::unlock(info, password);
     let a = u.answer;
     if a != answers::DONE {
-        return Reply { answer: a, size: 0 };
+        return refused(a);
     }
     let n = contents.len();
     let b = pack_answer(n, out.len());
     if b != answers::DONE {
-        return Reply { answer: b, size: 0 };
+        return refused(b);
     }
     let whole = rounded(n);
     let key = u.key;
     octets::put_le64(out, 0, n as u64);
     blocks::encrypt(key, contents, filling, whole, out, 8);
-    let size = 8 + whole;
-    octets::zero_from(out, size);
-    Reply {
-        answer: answers::DONE,
-        size,
-    }
+    done(8 + whole, out)
 }

@@ -33,12 +33,12 @@ fit : (c : tie.Else2) → let a = c .before .before .before .before .before .bef
 fit c = openable _ _ .0 (kept c)
 
 returns : tie.Need-returns
-returns c = rw (says (c .before)) (sym (open-by-verdict _ _ _ _ (λ z. c .if1 .taken (says (c .before) ∙ z))))
+returns c = rw (c .refused .ensures, says (c .before .before)) (sym (open-by-verdict _ _ _ _ (λ z. c .before .if1 .taken (says (c .before .before) ∙ z))))
 
 returns-2 : tie.Need-returns-2
 returns-2 c =
-    rw (c .before .stream-answer .ensures)
-    (sym (open-by-stream _ _ _ _ (accepted (c .before .before)) (λ z. c .if2 .taken (c .before .stream-answer .ensures ∙ z))))
+    rw (c .refused2 .ensures, c .before .before .stream-answer .ensures)
+    (sym (open-by-stream _ _ _ _ (accepted (c .before .before .before)) (λ z. c .before .if2 .taken (c .before .before .stream-answer .ensures ∙ z))))
 
 sub-decrypt : tie.Need-sub-decrypt
 sub-decrypt c = fit (c .before .before) .headed
@@ -54,22 +54,24 @@ decrypt-requires c κs =
     let r = rounds-known _ _ (accepted (e .before .before)) _ (e .before .before .before .unlock .ensures) in
     let s = e .before .before .before .before .before .before .before .before .args .stream .now in
     let all = take-all (length s - 8) (drop 8 s) (simp length-drop (omega arith)) in
-    (r, (rw (c .before .before .before .le64 .ensures, all) (openable-blocks _ _ k), rw (c .before .before .before .le64 .ensures) (k .roomy)))
+    (r, (rw (c .before .before .before .stream-size .ensures, all) (openable-blocks _ _ k), rw (c .before .before .before .stream-size .ensures) (k .roomy)))
 
 returns-3 : tie.Need-returns-3
 unfolding streamSize
 returns-3 c =
     let d = c .before .before .before .before .before .before in
     let e = d .before .before .before .before .before in
-    open-written _ _ (accepted (e .before .before)) _ (e .before .before .before .unlock .ensures) _ _ _ _ _ (kept e) (d .before .before .before .before .le64 .ensures)
-    (d .decrypt .ensures) (c .before .before .zero-from .ensures)
+    open-written _ _ (accepted (e .before .before)) _ (e .before .before .before .unlock .ensures) _ _ _ _ _ _ (kept e) (d .before .before .before .before .stream-size .ensures)
+    (d .decrypt .ensures) (c .before .before .done .ensures)
 
 pub open-spec : {M : Type 1} → statement M
 open-spec =
     tie.close
     (tie.spec
     (λ c κs. search needs)
+    (λ c κs. search needs)
     returns
+    (λ c κs. search needs)
     (λ c κs. search needs)
     returns-2
     (λ c κs. search needs)

@@ -33,12 +33,12 @@ fit : (c : tie.Else2) → let a = c .before .before .before .before .before .bef
 fit c = sealable _ _ .0 (kept c)
 
 returns : tie.Need-returns
-returns c = rw (says (c .before)) (sym (seal-by-verdict _ _ _ _ _ (λ z. c .if1 .taken (says (c .before) ∙ z))))
+returns c = rw (c .refused .ensures, says (c .before .before)) (sym (seal-by-verdict _ _ _ _ _ (λ z. c .before .if1 .taken (says (c .before .before) ∙ z))))
 
 returns-2 : tie.Need-returns-2
 returns-2 c =
-    rw (c .before .pack-answer .ensures)
-    (sym (seal-by-pack _ _ _ _ _ (accepted (c .before .before)) (λ z. c .if2 .taken (c .before .pack-answer .ensures ∙ z))))
+    rw (c .refused2 .ensures, c .before .before .pack-answer .ensures)
+    (sym (seal-by-pack _ _ _ _ _ (accepted (c .before .before .before)) (λ z. c .before .if2 .taken (c .before .before .pack-answer .ensures ∙ z))))
 
 rounded-requires : tie.Need-rounded-requires
 rounded-requires c κs = fit c .limited
@@ -56,30 +56,32 @@ encrypt-requires c κs =
     let k = c .before .before .before .put-le64 .kept .0 in
     (r, (rw n (rounded-whole _), omega arith, omega (arith, fit e .roomy)))
 
-add-size : tie.Need-add-size
+add-done : tie.Need-add-done
 unfolding limit rounded least
-add-size c = omega arith
+add-done c = omega arith
 
 returns-3 : tie.Need-returns-3
 returns-3 c =
     let d = c .before .before .before .before .before .before in
     let e = d .before .before .before .before .before .before .before .before in
     let s = e .before .before .before .before .before .before .before .before in
-    seal-written _ _ (accepted (e .before .before)) _ (e .before .before .before .unlock .ensures) _ (s .args .filling) _ _ _ _ _ (kept e) (sixteen s)
-    (d .before .before .before .before .before .before .before .rounded .ensures) (d .before .before .before .before .put-le64 .ensures) (d .encrypt .ensures) (c .before .before .zero-from .ensures)
+    seal-written _ _ (accepted (e .before .before)) _ (e .before .before .before .unlock .ensures) _ (s .args .filling) _ _ _ _ _ _ (kept e) (sixteen s)
+    (d .before .before .before .before .before .before .before .rounded .ensures) (d .before .before .before .before .put-le64 .ensures) (d .encrypt .ensures) (c .before .before .done .ensures)
 
 pub seal-spec : {M : Type 1} → statement M
 seal-spec =
     tie.close
     (tie.spec
     (λ c κs. search needs)
+    (λ c κs. search needs)
     returns
+    (λ c κs. search needs)
     (λ c κs. search needs)
     returns-2
     rounded-requires
     put-le64-requires
     encrypt-requires
-    add-size
+    add-done
     (λ c κs. search needs)
     (λ c. search needs)
     returns-3)
