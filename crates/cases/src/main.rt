@@ -1,8 +1,12 @@
-// The cases of 01 that are run and not proved: a line each, which the gate compares with the file stdout. Each reply from 1 to 12
-// is given once where a later rule is broken too, so that the order shows.
+// The cases of 01 that are run and not proved: a line each, which the gate compares with the file stdout. Each reply from 1 to 16
+// is given once where a later rule is broken too, so that the order shows; a refused call shows its buffer as it was.
 mod info;
+mod sheets;
 
 fn main() {
     info::parses();
     info::verdicts();
+    sheets::round_trips();
+    sheets::refusals();
+    sheets::published();
 }

@@ -1,17 +1,4 @@
 // SHA-1: FIPS 180-4's examples that fit, and lengths at which the padding changes its shape.
-//
-// A pattern of n bytes has i modulo 251 as its byte i.
-ghost use Prim.Native.Nat.{_≤_};
-ghost use lib.ListN.{length};
-
-// Byte i becomes i modulo 251.
-fn pattern(s: &mut [u8]) {
-    let mut i = 0;
-    while i < s.len() {
-        s[i] = (i % 251) as u8;
-        i += 1;
-    }
-}
 
 // The answer and the hash of a message.
 fn hashed(message: &[u8]) {
@@ -32,12 +19,10 @@ fn message(name: &[u8], m: &[u8]) {
 }
 
 // The first n bytes of the pattern.
-fn patterned(s: &[u8], n: usize)
-    requires { ⌜ n ≤ length (now s) ⌝ }
-{
+fn patterned(s: &[u8], n: usize) {
     lines::text(b"sha1 pattern ");
     lines::number(n as u64);
-    hashed(&s[..n]);
+    hashed(samples::front(s, n));
 }
 
 pub fn all() {
@@ -48,7 +33,7 @@ pub fn all() {
         b"abcdbcdecdefdefgefghfghighijhijkijkljklmklmnlmnomnopnopq",
     );
     let mut s = [0u8; 65537];
-    pattern(&mut s);
+    samples::pattern(&mut s);
     patterned(&s, 1);
     patterned(&s, 55);
     patterned(&s, 56);

@@ -4,8 +4,8 @@ use Prim.Native.Nat.{_-_, _≤_}
 use native.Mathlib.Omega.{arith}
 use borrow.Author.Needs.{needs}
 use lib.ListN.{length, length-set}
-use Rattle.vectors.proofs.hashes.pattern.Statement.{statement}
-use Rattle.vectors.proofs.hashes.pattern.Tie as tie
+use Rattle.samples.proofs.pattern.Statement.{statement}
+use Rattle.samples.proofs.pattern.Tie as tie
 
 abbrev Inv-loop : tie.InvT-loop
 Inv-loop s₀ i₀ s i = (i ≤ length s₀) × (length s ≡ length s₀)

@@ -2,8 +2,8 @@
 use Prim.Native.Nat.{_-_, _≤_}
 use native.Mathlib.Omega.{arith}
 use borrow.Author.Needs.{needs}
-use Rattle.cases.proofs.info.name.Statement.{statement}
-use Rattle.cases.proofs.info.name.Tie as tie
+use Rattle.samples.proofs.named.Statement.{statement}
+use Rattle.samples.proofs.named.Tie as tie
 
 abbrev Inv-loop : tie.InvT-loop
 Inv-loop letters t₀ i₀ t i = i ≤ 53
@@ -11,8 +11,8 @@ Inv-loop letters t₀ i₀ t i = i ≤ 53
 abbrev μ-loop : tie.MeasureT-loop
 μ-loop letters t₀ i₀ t i = 53 - i
 
-pub name-spec : {M : Type 1} → statement M
-name-spec =
+pub named-spec : {M : Type 1} → statement M
+named-spec =
     tie.close
     (tie.spec
     Inv-loop

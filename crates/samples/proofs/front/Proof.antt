@@ -2,8 +2,8 @@
 use mathlib.Core.Path.{sym}
 use borrow.Author.Needs.{needs}
 use lib.Seq.{length-take-le}
-use Rattle.cases.proofs.info.front.Statement.{statement}
-use Rattle.cases.proofs.info.front.Tie as tie
+use Rattle.samples.proofs.front.Statement.{statement}
+use Rattle.samples.proofs.front.Tie as tie
 
 slice-aggregate-result : tie.Need-slice-aggregate-result
 slice-aggregate-result c = sym (length-take-le (c .before .before .args .n) (c .before .before .args .s .now) (c .before .if1 .taken))
