@@ -1,5 +1,5 @@
 -- A call ends by its answer: what is written on 0, and the out parameter as it was on any other. Assumes nothing.
-use mathlib.Core.Path.{_≡_, refl, sym, ap, _∙_}
+use mathlib.Core.Path.{_≡_, refl, ap, _∙_}
 use mathlib.Core.Logic.{_⊎_, inl, inr}
 use mathlib.Core.List.{List}
 use Prim.Native.Nat.{ℕ, zero, suc}
@@ -21,17 +21,18 @@ answered (suc n) w value old out e (inr k) = rw (e, k .1)
 abbrev crossed : Sheet.Left → Left
 crossed l = left (word (l .reply .answer) (l .reply .size)) (l .out)
 
-sheet-ended : (answer size : ℕ) (content out : List ℕ) → crossed (Sheet.ended answer size content out) ≡ sheet (Sheet.ended answer size content out) out
+sheet-ended : (answer size : ℕ) (content out : List ℕ) → let l = Sheet.ended answer size content out in crossed l ≡ sheet l out
 unfolding sheet ended Sheet.ended
 sheet-ended zero size content out = refl
 sheet-ended (suc n) size content out = refl
 
 module _ (info password : List ℕ) (w : ℕ) (r : Reply) (old out : List ℕ) (e : w ≡ word (r .answer) (r .size)) where
-  pub open-crossed : (stream : List ℕ) → Sheet.left r out ≡ Sheet.opened info password stream old → left w out ≡ opened info password stream old
+  pub open-crossed : (stream : List ℕ) → Sheet.left r out ≡ Sheet.opened info password stream old
+      → left w out ≡ opened info password stream old
   unfolding opened Sheet.opened
   open-crossed stream l = ap (λ (n : ℕ). left n out) e ∙ ap crossed l ∙ sheet-ended _ _ _ old
 
-  pub seal-crossed : (pack : List ℕ) (low high : ℕ) → Sheet.left r out ≡ Sheet.sealed info password pack (sixteen low high) old
-      → left w out ≡ sealed info password pack low high old
+  pub seal-crossed : (pack given : List ℕ) (low high : ℕ) → given ≡ sixteen low high
+      → Sheet.left r out ≡ Sheet.sealed info password pack given old → left w out ≡ sealed info password pack low high old
   unfolding sealed Sheet.sealed
-  seal-crossed pack low high l = ap (λ (n : ℕ). left n out) e ∙ ap crossed l ∙ sheet-ended _ _ _ old
+  seal-crossed pack given low high q l = rw (← q) (ap (λ (n : ℕ). left n out) e ∙ ap crossed l ∙ sheet-ended _ _ _ old)

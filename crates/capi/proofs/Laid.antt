@@ -1,6 +1,6 @@
 -- Parts laid in a buffer of zeros, each right after the one before it, are the definitions' lists. Assumes nothing.
 use mathlib.Core.Path.{_≡_, refl, _∙_}
-use mathlib.Core.List.{List, [], _++_, append-nil, append-assoc}
+use mathlib.Core.List.{List, [], _++_, append-nil}
 use Prim.Native.Nat.{ℕ, _+_}
 use lib.ListN.{length, replicate, length-append}
 use lib.Seq.{paste}
@@ -18,7 +18,8 @@ record Filled (p b : List ℕ) (n m : ℕ) : Type 0 where
 none : (m : ℕ) → Filled [] (replicate m 0) 0 m
 none m = record { long = refl; rest = refl }
 
-more : {p x : List ℕ} (at n m : ℕ) (s y : List ℕ) → Filled p x at (n + m) → length s ≡ n → y ≡ paste x at s n → Filled (p ++ s) y (at + n) m
+more : {p x : List ℕ} (at n m : ℕ) (s y : List ℕ) → Filled p x at (n + m) → length s ≡ n → y ≡ paste x at s n
+    → Filled (p ++ s) y (at + n) m
 more {p} {x} at n m s y f l e =
     record { long = rw (length-append, f .long, l); rest = fill-next p s x y at n m 0 (f .long) l (f .rest) e }
 
@@ -26,7 +27,8 @@ whole : {p b : List ℕ} {n : ℕ} → Filled p b n 0 → b ≡ p
 whole {p} f = f .rest ∙ append-nil p
 
 -- a number of n bytes
-more-le : {p x : List ℕ} (at n m v : ℕ) (y : List ℕ) → Filled p x at (n + m) → y ≡ paste x at (leBytes n v) n → Filled (p ++ leBytes n v) y (at + n) m
+more-le : {p x : List ℕ} (at n m v : ℕ) (y : List ℕ) → Filled p x at (n + m) → y ≡ paste x at (leBytes n v) n
+    → Filled (p ++ leBytes n v) y (at + n) m
 more-le at n m v y f e = more at n m (leBytes n v) y f (length-leBytes n v) e
 
 -- two numbers of eight bytes
@@ -45,7 +47,7 @@ module _ (d : Descriptor) where
       let versions = more-le 2 2 16 (d .minor) b₂ (more-le 0 2 18 (d .major) b₁ (none 20) e₁) e₂ in
       let sizes = more-le 8 4 8 (d .key .0) b₄ (more-le 4 4 12 (d .alg) b₃ versions e₃) e₄ in
       let name = more-le 16 4 0 (d .name) b₆ (more-le 12 4 4 (d .place) b₅ sizes e₅) e₆ in
-      whole name ∙ simp append-assoc
+      whole name
 
   pub length-numbers : length (Capi.numberBytes d) ≡ 20
   unfolding Capi.numberBytes
@@ -59,4 +61,4 @@ module _ (d : Descriptor) where
   fields-laid n b₁ b₂ b₃ b₄ f q e₁ e₂ e₃ e₄ =
       let numbers = more 0 20 64 (Capi.numberBytes d) b₁ (none 84) length-numbers (rw q at e₁) in
       let verifier = more 36 16 32 (d .verifier) b₃ (more 20 16 48 (d .salt) b₂ numbers (f .salt) e₂) (f .verifier) e₃ in
-      whole (more 52 32 0 (d .hash) b₄ verifier (f .hash) e₄) ∙ simp append-assoc
+      whole (more 52 32 0 (d .hash) b₄ verifier (f .hash) e₄)

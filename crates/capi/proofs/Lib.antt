@@ -3,3 +3,4 @@
 mod Bounds
 mod Laid
 mod Ended
+mod Lossless

@@ -1,23 +1,19 @@
--- The reply's answer decides whether its block is written.
+-- The block of two numbers, encrypted.
 use mathlib.Core.Path.{ap, _∙_}
-use mathlib.Core.List.{List}
-use mathlib.Core.Logic.{⊎-elim, inl, inr}
-use Prim.Native.Nat.{ℕ}
 use borrow.Author.Needs.{needs}
 use Rattle.aes.specs.Aes as Aes
 use Rattle.aes.specs.declared.Reply.{Reply}
 use Rattle.capi.specs.Capi as Capi
-use Rattle.capi.proofs.Ended.{answered}
 use Rattle.capi.proofs.ropeshadow_aes_encrypt.Statement.{statement}
 use Rattle.capi.proofs.ropeshadow_aes_encrypt.Tie as tie
 
 returns : tie.Need-returns
-unfolding Capi.encrypted Capi.block
+unfolding Capi.encrypted
 returns c =
-    let encrypt = c .before .before in
-    let a = encrypt .before .before .before .args in
-    answered _ _ _ (a .out .now) _ (c .word .ensures) (⊎-elim (λ w. inl (w .0 .taken, w .2)) (λ w. inr (w .0 .left, w .1)) (c .before .if1 .came))
-    ∙ ap (λ (r : Reply). Capi.block r (a .out .now)) (encrypt .encrypt .ensures ∙ ap (Aes.encrypted (a .key .now)) (encrypt .before .sixteen .ensures))
+    let b = c .before .before in
+    let a = b .before .before .before .args in
+    c .written .ensures
+    ∙ ap (λ (r : Reply). Capi.block r (a .out .now)) (b .encrypt .ensures ∙ ap (Aes.encrypted (a .key .now)) (b .before .sixteen .ensures))
 
 pub ropeshadow-aes-encrypt-spec : {M : Type 1} → statement M
 ropeshadow-aes-encrypt-spec =

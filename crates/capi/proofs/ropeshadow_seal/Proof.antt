@@ -1,29 +1,17 @@
--- The reply crosses as it is, and its size fits.
-use mathlib.Core.Path.{_≡_, ap, _∙_}
-use mathlib.Core.List.{List}
-use Prim.Native.Nat.{ℕ, _≤_}
-use native.Mathlib.Omega.{arith}
+-- The reply crosses as it is, its size fits, and the filling is the two numbers'.
 use borrow.Author.Needs.{needs}
-use Rattle.sheet.specs.Sheet as Sheet
+use Rattle.capi.proofs.Bounds.{seal-held}
 use Rattle.capi.proofs.Ended.{seal-crossed}
-use Rattle.capi.proofs.Bounds.{seal-size}
 use Rattle.capi.proofs.ropeshadow_seal.Statement.{statement}
 use Rattle.capi.proofs.ropeshadow_seal.Tie as tie
 
 word-requires : tie.Need-word-requires
-unfolding Sheet.sealedSize Sheet.rounded Sheet.least Sheet.limit
-word-requires c κs =
-    let s = c .before .before in
-    let a = s .before .before .before .before .before .before .before .args in
-    let same = ap (λ (l : Sheet.Left). l .reply .size) (s .seal .ensures) in
-    omega (arith, same, seal-size (a .info .now) (a .password .now) (a .contents .now) (s .before .before .sixteen .result) (a .out .now))
+word-requires c κs = seal-held _ _ _ _ _ _ _ (c .before .before .seal .ensures)
 
 returns : tie.Need-returns
 returns c =
     let s = c .before .before .before in
-    let a = s .before .before .before .before .before .before .before .args in
-    seal-crossed _ _ _ _ _ _ (c .word .ensures) _ _ _
-    (s .seal .ensures ∙ ap (λ (f : List ℕ). Sheet.sealed (a .info .now) (a .password .now) (a .contents .now) f (a .out .now)) (s .before .before .sixteen .ensures))
+    seal-crossed _ _ _ _ _ _ (c .word .ensures) _ _ _ _ (s .before .before .sixteen .ensures) (s .seal .ensures)
 
 pub ropeshadow-seal-spec : {M : Type 1} → statement M
 ropeshadow-seal-spec =

@@ -19,7 +19,7 @@ returns c =
     let second = third .before .before .before .before in
     let first = second .before .before .before .before in
     let numbers = first .before .before .before .before .before .before in
-    fields-laid _ _ _ _ _ _ (numbers .before .pre) (numbers .numbers .ensures)
+    fields-laid (numbers .before .args .d) _ _ _ _ _ (numbers .before .pre) (numbers .numbers .ensures)
     (first .copy .ensures) (second .copy2 .ensures) (third .copy3 .ensures) (c .before .copy4 .ensures)
 
 pub bytes-spec : {M : Type 1} → statement M

@@ -9,7 +9,7 @@ returns c =
     let place = c .before .before .before .before .before in
     let alg = place .before .before .before .before .before .before .before .before in
     let major = alg .before .before .before .before .before .before in
-    numbers-laid _ _ _ _ _ _ _ (major .put-le16 .ensures) (alg .before .before .before .put-le162 .ensures) (alg .put-le32 .ensures)
+    numbers-laid (major .before .before .args .d) _ _ _ _ _ _ (major .put-le16 .ensures) (alg .before .before .before .put-le162 .ensures) (alg .put-le32 .ensures)
     (place .before .before .before .before .put-le322 .ensures) (place .put-le323 .ensures) (c .before .put-le324 .ensures)
 
 pub numbers-spec : {M : Type 1} → statement M

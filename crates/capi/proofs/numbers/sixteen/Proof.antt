@@ -5,7 +5,10 @@ use Rattle.capi.proofs.numbers.sixteen.Statement.{statement}
 use Rattle.capi.proofs.numbers.sixteen.Tie as tie
 
 returns : tie.Need-returns
-returns c = sixteen-laid _ _ _ _ (c .before .before .before .before .put-le64 .ensures) (c .before .put-le642 .ensures)
+returns c =
+    let first = c .before .before .before .before in
+    let a = first .before .before .args in
+    sixteen-laid (a .low) (a .high) _ _ (first .put-le64 .ensures) (c .before .put-le642 .ensures)
 
 pub sixteen-spec : {M : Type 1} → statement M
 sixteen-spec =
