@@ -1,0 +1,95 @@
+-- Every number that crosses is small: an answer is one of its rules' numbers, a size is at most that of the longest stream, and the rules
+-- 1 to 10 bound a descriptor's fields. Assumes nothing.
+use mathlib.Core.Path.{_≡_, refl, ap, _∙_}
+use mathlib.Core.Logic.{inl, inr}
+use mathlib.Core.List.{List, [], _∷_}
+use Prim.Native.Nat.{ℕ, zero, suc, _+_, _/_, _^_, _≤_, _<_}
+use native.Mathlib.Omega.{arith}
+use borrow.Author.Tests.{eqb-true}
+use lib.Dec.{eqb}
+use lib.ListN.{length}
+use Rattle.answers.specs.Rules.{OneOf}
+use Rattle.answers.proofs.Laws.{either}
+use Rattle.descriptor.specs.Info as Info
+use Rattle.descriptor.proofs.Laws.{Admitted, alg-known, sound}
+use Rattle.sheet.specs.Sheet as Sheet
+use Rattle.sheet.specs.declared.Reply.{Reply}
+use Rattle.sheet.proofs.Laws.{open-answer, open-zero, seal-answer, seal-zero}
+use Rattle.capi.specs.Capi.{Fits}
+
+-- ---- one of a list is at most their sum
+
+abbrev pub sum : List ℕ → ℕ
+sum [] = 0
+sum (m ∷ ms) = m + sum ms
+
+pub one-within : (ms : List ℕ) (n : ℕ) → OneOf ms n → n ≤ sum ms
+one-within [] n o = absurd o
+one-within (m ∷ ms) n (inl e) = omega (arith, e)
+one-within (m ∷ ms) n (inr o) = omega (arith, one-within ms n o)
+
+-- ---- sizes
+
+ended-size : (answer size : ℕ) (content out : List ℕ) (most : ℕ) → (answer ≡ 0 → size ≤ most)
+    → Sheet.ended answer size content out .reply .size ≤ most
+unfolding Sheet.ended
+ended-size zero size content out most h = h refl
+ended-size (suc n) size content out most h = omega arith
+
+sealed-most : (size : ℕ) → size ≤ Sheet.limit → Sheet.sealedSize size ≤ Sheet.sealedSize Sheet.limit
+unfolding Sheet.sealedSize Sheet.rounded Sheet.least Sheet.limit
+sealed-most size h = omega arith
+
+module _ (info password : List ℕ) where
+  open-size : (stream out : List ℕ) → Sheet.opened info password stream out .reply .size ≤ Sheet.limit
+  unfolding Sheet.opened
+  open-size stream out =
+      ended-size _ _ _ out Sheet.limit (λ h. open-zero info password stream out (open-answer info password stream out ∙ h) .1 .limited)
+
+  seal-size : (pack given out : List ℕ) → Sheet.sealed info password pack given out .reply .size ≤ Sheet.sealedSize Sheet.limit
+  unfolding Sheet.sealed
+  seal-size pack given out =
+      ended-size _ _ _ out (Sheet.sealedSize Sheet.limit)
+      (λ h. sealed-most (length pack) (seal-zero info password pack given out (seal-answer info password pack given out ∙ h) .1 .limited))
+
+  -- so a word holds the size of a reply
+  module _ (r : Reply) (old out : List ℕ) where
+    pub open-held : (stream : List ℕ) → Sheet.left r out ≡ Sheet.opened info password stream old → r .size < 2 ^ 48
+    unfolding Sheet.limit
+    open-held stream e = omega (arith, ap (λ (l : Sheet.Left). l .reply .size) e, open-size stream old)
+
+    pub seal-held : (pack given : List ℕ) → Sheet.left r out ≡ Sheet.sealed info password pack given old → r .size < 2 ^ 48
+    unfolding Sheet.sealedSize Sheet.rounded Sheet.least Sheet.limit
+    seal-held pack given e = omega (arith, ap (λ (l : Sheet.Left). l .reply .size) e, seal-size pack given old)
+
+-- ---- the fields of a descriptor
+
+alg-small : (a : ℕ) → Info.suiteOf a .answer ≡ 0 → a ≤ 0x6610
+unfolding Info.suiteOf
+alg-small a h =
+    elim (either (eqb a 0x660e)) [
+      | inl e ↦ omega (arith, eqb-true a 0x660e e)
+      | inr e ↦ elim (either (eqb a 0x660f)) [
+        | inl f ↦ omega (arith, eqb-true a 0x660f f)
+        | inr f ↦ elim (either (eqb a 0x6610)) [
+          | inl g ↦ omega (arith, eqb-true a 0x6610 g)
+          | inr g ↦ absurd (omega (arith, rw (e, f, g) at h))
+        ]
+      ]
+    ]
+
+pub described-fits : (info : List ℕ) → Admitted info → Fits (Info.described info)
+unfolding Info.described
+described-fits info h =
+    let s = sound info h in
+    record {
+      major = omega (arith, one-within (2 ∷ 3 ∷ 4 ∷ []) (Info.major info) (s .major));
+      minor = omega (arith, s .minor);
+      alg = omega (arith, alg-small (Info.algId info) (alg-known info h));
+      key = omega (arith, one-within (16 ∷ 24 ∷ 32 ∷ []) (Info.keySize info / 8) (s .key));
+      place = omega (arith, s .place);
+      name = omega (arith, s .name-fits);
+      salt = s .salt;
+      verifier = s .verifier;
+      hash = s .hash;
+    }

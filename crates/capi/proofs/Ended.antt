@@ -1,0 +1,38 @@
+-- A call ends by its answer: what is written on 0, and the out parameter as it was on any other. Assumes nothing.
+use mathlib.Core.Path.{_≡_, refl, ap, _∙_}
+use mathlib.Core.Logic.{_⊎_, inl, inr}
+use mathlib.Core.List.{List}
+use Prim.Native.Nat.{ℕ, zero, suc}
+use native.Mathlib.Omega.{arith}
+use Rattle.sheet.specs.declared.Reply.{Reply}
+use Rattle.sheet.specs.Sheet as Sheet
+use Rattle.capi.specs.Capi.{word, sixteen, Left, left, ended, sheet, opened, sealed}
+
+-- the two arms of a function that writes a value on answer 0 only
+pub answered : (answer w : ℕ) (value old out : List ℕ) → w ≡ word answer 0
+    → ((answer ≡ 0) × (out ≡ value)) ⊎ ((answer ≡ 0 → ⊥) × (out ≡ old)) → left w out ≡ ended answer 0 value old
+unfolding ended
+answered zero w value old out e (inl k) = rw (e, k .1)
+answered zero w value old out e (inr k) = absurd (k .0 refl)
+answered (suc n) w value old out e (inl k) = absurd (omega (arith, k .0))
+answered (suc n) w value old out e (inr k) = rw (e, k .1)
+
+-- opening and sealing write by themselves on answer 0 only, so their reply crosses as it is
+abbrev crossed : Sheet.Left → Left
+crossed l = left (word (l .reply .answer) (l .reply .size)) (l .out)
+
+sheet-ended : (answer size : ℕ) (content out : List ℕ) → let l = Sheet.ended answer size content out in crossed l ≡ sheet l out
+unfolding sheet ended Sheet.ended
+sheet-ended zero size content out = refl
+sheet-ended (suc n) size content out = refl
+
+module _ (info password : List ℕ) (w : ℕ) (r : Reply) (old out : List ℕ) (e : w ≡ word (r .answer) (r .size)) where
+  pub open-crossed : (stream : List ℕ) → Sheet.left r out ≡ Sheet.opened info password stream old
+      → left w out ≡ opened info password stream old
+  unfolding opened Sheet.opened
+  open-crossed stream l = ap (λ (n : ℕ). left n out) e ∙ ap crossed l ∙ sheet-ended _ _ _ old
+
+  pub seal-crossed : (pack given : List ℕ) (low high : ℕ) → given ≡ sixteen low high
+      → Sheet.left r out ≡ Sheet.sealed info password pack given old → left w out ≡ sealed info password pack low high old
+  unfolding sealed Sheet.sealed
+  seal-crossed pack given low high q l = rw (← q) (ap (λ (n : ℕ). left n out) e ∙ ap crossed l ∙ sheet-ended _ _ _ old)

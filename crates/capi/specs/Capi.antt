@@ -1,0 +1,101 @@
+-- What each outside function returns and leaves, for every input (01, "What the product does" and "The numbered replies"). Its parts
+-- are those of the crates below; here is how they cross: numbers, sixteen bytes, a descriptor. Assumes nothing.
+use mathlib.Core.Path.{_≡_}
+use mathlib.Core.List.{List, _++_}
+use Prim.Native.Nat.{ℕ, zero, suc, _+_, _*_, _^_, _<_}
+use lib.ListN.{length}
+use Rattle.octets.specs.Octets.{leBytes}
+use Rattle.sha1.specs.Sha1 as Sha1
+use Rattle.aes.specs.Aes as Aes
+use Rattle.aes.specs.declared.Reply.{Reply}
+use Rattle.descriptor.specs.Info as Info
+use Rattle.descriptor.specs.declared.Descriptor.{Descriptor}
+use Rattle.password.specs.Verdict as Verdict
+use Rattle.sheet.specs.Sheet as Sheet
+
+-- ---- how values cross
+
+-- an answer and a size in one number
+unfoldable pub word : ℕ → ℕ → ℕ
+word answer size = answer + 65536 * size
+
+-- sixteen bytes of two numbers: the first eight, then the last, each low byte first
+unfoldable pub sixteen : ℕ → ℕ → List ℕ
+sixteen low high = leBytes 8 low ++ leBytes 8 high
+
+-- a descriptor's numbers in 20 bytes, low byte first: both versions, AlgID, the key's size in bytes, the name's place and its length
+unfoldable pub numberBytes : Descriptor → List ℕ
+numberBytes d =
+    leBytes 2 (d .major)
+    ++ leBytes 2 (d .minor)
+    ++ leBytes 4 (d .alg)
+    ++ leBytes 4 (d .key .0)
+    ++ leBytes 4 (d .place)
+    ++ leBytes 4 (d .name)
+
+-- a descriptor in 84 bytes: its numbers, the salt, EncryptedVerifier, EncryptedVerifierHash
+unfoldable pub descriptorBytes : Descriptor → List ℕ
+descriptorBytes d = numberBytes d ++ d .salt ++ d .verifier ++ d .hash
+
+-- a descriptor that these bytes hold: no field is too long
+pub record Fits (d : Descriptor) : Type 0 where
+  pub major : d .major < 2 ^ 16
+  pub minor : d .minor < 2 ^ 16
+  pub alg : d .alg < 2 ^ 32
+  pub key : d .key .0 < 2 ^ 32
+  pub place : d .place < 2 ^ 32
+  pub name : d .name < 2 ^ 32
+  pub salt : length (d .salt) ≡ 16
+  pub verifier : length (d .verifier) ≡ 16
+  pub hash : length (d .hash) ≡ 32
+
+-- ---- what a call leaves
+
+-- the number that it returns, and its out parameter
+pub record Left : Type 0 where
+  pub word : ℕ
+  pub out : List ℕ
+
+abbrev pub left : ℕ → List ℕ → Left
+left w o = record { word = w; out = o }
+
+-- by its answer: with 0 the size, and what is written; with any other size 0, and the out parameter as it was
+unfoldable pub ended : (answer size : ℕ) (written out : List ℕ) → Left
+ended zero size written out = left (word 0 size) written
+ended (suc n) size written out = left (word (suc n) 0) out
+
+-- the same for the reply of a block operation, and for what opening or sealing left
+unfoldable pub block : Reply → List ℕ → Left
+block r out = ended (r .answer) 0 (r .block) out
+
+unfoldable pub sheet : Sheet.Left → List ℕ → Left
+sheet l out = ended (l .reply .answer) (l .reply .size) (l .out) out
+
+-- ---- the functions
+
+-- `ropeshadow_sha1`
+unfoldable pub hashed : (message out : List ℕ) → Left
+hashed message out = ended (Sha1.hashed message .answer) 0 (Sha1.hashed message .bytes) out
+
+-- `ropeshadow_aes_encrypt` and `ropeshadow_aes_decrypt`
+unfoldable pub encrypted : (key : List ℕ) (low high : ℕ) (out : List ℕ) → Left
+encrypted key low high out = block (Aes.encrypted key (sixteen low high)) out
+
+unfoldable pub decrypted : (key : List ℕ) (low high : ℕ) (out : List ℕ) → Left
+decrypted key low high out = block (Aes.decrypted key (sixteen low high)) out
+
+-- `ropeshadow_parse`
+unfoldable pub parsed : (info out : List ℕ) → Left
+parsed info out = ended (Info.parsed info .answer) 0 (descriptorBytes (Info.parsed info .fields)) out
+
+-- `ropeshadow_verdict`
+unfoldable pub judged : (info password : List ℕ) → ℕ
+judged info password = word (Verdict.judged info password) 0
+
+-- `ropeshadow_open`
+unfoldable pub opened : (info password stream out : List ℕ) → Left
+opened info password stream out = sheet (Sheet.opened info password stream out) out
+
+-- `ropeshadow_seal`, the filling in two numbers
+unfoldable pub sealed : (info password pack : List ℕ) (low high : ℕ) (out : List ℕ) → Left
+sealed info password pack low high out = sheet (Sheet.sealed info password pack (sixteen low high) out) out

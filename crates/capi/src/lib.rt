@@ -1,0 +1,115 @@
+// The outside interface: each part of 01's product as a function for C, on lent memory and numbers. It changes nothing but its `out`.
+//
+//     uint64_t word = ropeshadow_open(info, info_size, password, units, stream, stream_size, out, room);
+//     if (word % 65536 == 0) { .. the first word / 65536 bytes of out .. }
+//
+// Each returns one number, 01's answer + 65,536 x the size; the size is 0 but for a sheet opened or sealed. With an answer other than
+// 0 the size is 0 and `out` is as it was (specs/Capi.antt).
+//
+// To C a lent slice is two parameters, where it starts and how many elements it has: `&[u8]` is `const uint8_t *, size_t`, `&[u16]` is
+// `const uint16_t *, size_t`, `&mut [u8]` is `uint8_t *, size_t`. A `&mut [u8; 20]` is one, `uint8_t *`, to that many bytes; `u64` is
+// `uint64_t`. Sixteen bytes by value are two numbers, the first eight bytes and then the last, each low byte first.
+//
+// Nothing checks what C passes: a pointer leads to as many elements as its count says and is never null, and `out` shares no byte with
+// anything else lent.
+ghost use mathlib.Core.Path.{_≡_};
+ghost use Rattle.capi.specs.Capi as Capi;
+ghost use Rattle.capi.specs.Capi.{left};
+
+mod fields;
+mod numbers;
+
+use aes::Reply;
+use numbers::sixteen;
+use numbers::word;
+
+// SHA-1 of a message.
+#[no_mangle]
+pub extern "C" fn ropeshadow_sha1(message: &[u8], out: &mut [u8; 20]) -> u64
+    ensures { λ r. ⌜ left r (now (out .exit)) ≡ Capi.hashed (now (message .entry)) (now (out .entry)) ⌝ }
+{
+    let h = sha1::digest(message);
+    if h.answer == answers::DONE {
+        let bytes = h.bytes;
+        *out = bytes;
+    }
+    word(h.answer, 0)
+}
+
+// The block of a reply, written where its answer is 0.
+fn written(r: Reply, out: &mut [u8; 16]) -> u64
+    ensures { λ w. ⌜ left w (now (out .exit)) ≡ Capi.block r (now (out .entry)) ⌝ }
+{
+    if r.answer == answers::DONE {
+        let block = r.block;
+        *out = block;
+    }
+    word(r.answer, 0)
+}
+
+// A block encrypted under a key of 16, 24 or 32 bytes.
+#[no_mangle]
+pub extern "C" fn ropeshadow_aes_encrypt(key: &[u8], low: u64, high: u64, out: &mut [u8; 16]) -> u64
+    ensures { λ r. ⌜ left r (now (out .exit)) ≡ Capi.encrypted (now (key .entry)) low high (now (out .entry)) ⌝ }
+{
+    written(aes::encrypt(key, sixteen(low, high)), out)
+}
+
+// A block decrypted under a key of 16, 24 or 32 bytes.
+#[no_mangle]
+pub extern "C" fn ropeshadow_aes_decrypt(key: &[u8], low: u64, high: u64, out: &mut [u8; 16]) -> u64
+    ensures { λ r. ⌜ left r (now (out .exit)) ≡ Capi.decrypted (now (key .entry)) low high (now (out .entry)) ⌝ }
+{
+    written(aes::decrypt(key, sixteen(low, high)), out)
+}
+
+// The descriptor of EncryptionInfo.
+#[no_mangle]
+pub extern "C" fn ropeshadow_parse(info: &[u8], out: &mut [u8; 84]) -> u64
+    ensures { λ r. ⌜ left r (now (out .exit)) ≡ Capi.parsed (now (info .entry)) (now (out .entry)) ⌝ }
+{
+    let p = descriptor::parse(info);
+    if p.answer == answers::DONE {
+        let d = p.fields;
+        *out = fields::bytes(d);
+    }
+    word(p.answer, 0)
+}
+
+// The verdict on a password.
+#[no_mangle]
+pub extern "C" fn ropeshadow_verdict(info: &[u8], password: &[u16]) -> u64
+    ensures { λ r. ⌜ r ≡ Capi.judged (now (info .entry)) (now (password .entry)) ⌝ }
+{
+    word(password::verdict(info, password), 0)
+}
+
+// A package stream opened into out.
+#[no_mangle]
+pub extern "C" fn ropeshadow_open(
+    info: &[u8],
+    password: &[u16],
+    stream: &[u8],
+    out: &mut [u8],
+) -> u64
+    ensures { λ r. ⌜ left r (now (out .exit)) ≡ Capi.opened (now (info .entry)) (now (password .entry)) (now (stream .entry)) (now (out .entry)) ⌝ }
+{
+    let r = sheet::open(info, password, stream, out);
+    word(r.answer, r.size)
+}
+
+// A package sealed into out, its last block filled with the first of sixteen bytes.
+#[no_mangle]
+pub extern "C" fn ropeshadow_seal(
+    info: &[u8],
+    password: &[u16],
+    contents: &[u8],
+    low: u64,
+    high: u64,
+    out: &mut [u8],
+) -> u64
+    ensures { λ r. ⌜ left r (now (out .exit)) ≡ Capi.sealed (now (info .entry)) (now (password .entry)) (now (contents .entry)) low high (now (out .entry)) ⌝ }
+{
+    let r = sheet::seal(info, password, contents, sixteen(low, high), out);
+    word(r.answer, r.size)
+}
