@@ -47,8 +47,8 @@ static char *ask(void) {
     if (tcgetattr(0, &before) != 0) stop("password", "no terminal to ask on; name a file");
     quiet = before;
     quiet.c_lflag &= ~(tcflag_t)(ECHO | ISIG);
-    fputs("Password: ", stderr);
     if (tcsetattr(0, TCSAFLUSH, &quiet) != 0) stop("password", "the echo cannot be turned off");
+    fputs("Password: ", stderr);
     ssize_t read = getline(&line, &room, stdin);
     if (tcsetattr(0, TCSAFLUSH, &before) != 0 || read < 0) stop("password", "cannot be read");
     fputc('\n', stderr);

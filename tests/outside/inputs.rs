@@ -43,7 +43,8 @@ const ALGORITHMS: [(u32, u32); 3] = [(0x660e, 128), (0x660f, 192), (0x6610, 256)
 /// EncryptionInfo of that shape: what is not judged is random.
 fn info_of(r: &mut Random, major: u16, header: u32, extra: u32, alg: (u32, u32), salt: &[u8], verifier: &[u8], hash: &[u8]) -> Vec<u8> {
     let mut info = [major.to_le_bytes(), 2u16.to_le_bytes()].concat();
-    for number in [r.next() as u32, header, r.next() as u32, extra, alg.0, 0x8004, alg.1, r.next() as u32, r.next() as u32, r.next() as u32] {
+    for number in [r.next() as u32, header, r.next() as u32, extra, alg.0, 0x8004, alg.1, r.next() as u32, r.next() as u32, r.next() as u32]
+    {
         info.extend(number.to_le_bytes());
     }
     info.extend(r.bytes(header as usize - 32));
@@ -257,12 +258,7 @@ impl Cases {
             let package = self.r.bytes(17);
             let filling = self.r.sixteen();
             let l = &self.locks[size];
-            let valid = Opening {
-                info: l.info.clone(),
-                password: l.password.clone(),
-                stream: sealed(&l.aes, &package, filling),
-                room: 17,
-            };
+            let valid = Opening { info: l.info.clone(), password: l.password.clone(), stream: sealed(&l.aes, &package, filling), room: 17 };
             for first in 1..=16 {
                 for second in first..=16 {
                     let mut o = valid.clone();
@@ -273,7 +269,8 @@ impl Cases {
                     }
                     let (info, password) = (o.info.clone(), o.password.clone());
                     if second <= 12 {
-                        let call = Call::Seal { info: info.clone(), password: password.clone(), package: package.clone(), filling, room: 39 };
+                        let call =
+                            Call::Seal { info: info.clone(), password: password.clone(), package: package.clone(), filling, room: 39 };
                         self.list.push(Case { group: "two rules broken", call, answer: Some(first) });
                         let call = Call::Verdict { info: info.clone(), password: password.clone() };
                         self.list.push(Case { group: "two rules broken", call, answer: Some(first) });
@@ -378,7 +375,14 @@ impl Cases {
                 let n = self.r.below(64);
                 stream = self.r.bytes(n);
             }
-            self.add("random", if turn % 2 == 0 { Call::Open { info, password, stream, room } } else { Call::Seal { info, password, package, filling, room } });
+            self.add(
+                "random",
+                if turn % 2 == 0 {
+                    Call::Open { info, password, stream, room }
+                } else {
+                    Call::Seal { info, password, package, filling, room }
+                },
+            );
         }
     }
 }
