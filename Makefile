@@ -1,5 +1,7 @@
 # test: the whole gate. second: the independent vectors alone. bench: times beside C and OpenSSL (needs libssl-dev).
-.PHONY: test second bench
+# lib: the outside interface as target/lib/libropeshadow.a and .so. outside: the archive against the second implementation and real
+# producers (installs Debian packages). fuzz: ten minutes of libFuzzer on it (installs clang).
+.PHONY: test second bench lib outside fuzz
 
 test:
 	.ci/run
@@ -9,3 +11,12 @@ second:
 
 bench:
 	bench/run
+
+lib:
+	tools/lib
+
+outside:
+	tests/outside/run
+
+fuzz:
+	tests/outside/fuzz

@@ -1,8 +1,5 @@
-//! The vectors once more, by code that shares nothing with the crates: written from the standards, in another language, with no
-//! library for what it checks. It prints the lines that crates/vectors prints; the gate compares the two.
-mod aes;
-mod office;
-mod sha1;
+//! The published vectors by the second implementation: the lines that crates/vectors prints. The gate compares the two.
+use second::{aes::Aes, key, sha1};
 
 fn hex(bytes: &[u8]) -> String {
     bytes.iter().map(|b| format!("{b:02x}")).collect()
@@ -46,13 +43,13 @@ fn ciphers() {
         "8e73b0f7da0e6452c810f32b809079e562f8ead2522c6b7b",
         "603deb1015ca71be2b73aef0857d77811f352c073b6108d72d9810a30914dff4",
     ] {
-        let (n, aes) = (key.len() / 2, aes::Aes::new(&bytes(key)).unwrap());
+        let (n, aes) = (key.len() / 2, Aes::new(&bytes(key)).unwrap());
         println!("aes key {n}: rounds {} last round key {}", aes.rounds(), hex(&aes.last_round_key()));
     }
     let rising: Vec<u8> = (0..33).collect();
     let block: [u8; 16] = bytes("00112233445566778899aabbccddeeff").try_into().unwrap();
     for n in [16, 24, 32, 0, 15, 17, 23, 31, 33] {
-        let aes = aes::Aes::new(&rising[..n]);
+        let aes = Aes::new(&rising[..n]);
         let there = aes.as_ref().map(|a| a.encrypt(block));
         block_line(n, "encrypt", there);
         block_line(n, "decrypt", aes.as_ref().map(|a| a.decrypt(there.unwrap())));
@@ -62,7 +59,7 @@ fn ciphers() {
 // ---- the key derivation and the verdict (000 section 8, 002)
 
 fn key_line(name: &str, salt: &str, password: &[u16]) {
-    let d = office::derive(&bytes(salt), password);
+    let d = key::derive(&bytes(salt), password);
     let key = |n: usize| hex(&d.key[..n]);
     println!("key {name}: H {} B {} 16 {} 24 {} 32 {}", hex(&d.h), hex(&d.b), key(16), key(24), key(32));
 }
@@ -77,7 +74,8 @@ fn keys() {
     let verifier: [u8; 16] = bytes("2589aebb860b8a41fa690e76ed56b0be").try_into().unwrap();
     let hash: [u8; 32] = bytes("deddb6b29f9cd382a0a204a51b7fdf7eb1233f14fe5c99d96f5de4db083d925e").try_into().unwrap();
     for (name, password) in [("000 8.4", "password"), ("000 8.4, one unit off", "passwore")] {
-        let answer = office::verdict(32, &bytes(rising), verifier, hash, &units(password));
+        let aes = Aes::new(&key::derive(&bytes(rising), &units(password)).key[..32]).unwrap();
+        let answer = if key::matches(&aes, verifier, hash) { 0 } else { 12 };
         println!("verdict {name}: answer {answer}");
     }
 }

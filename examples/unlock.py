@@ -1,0 +1,58 @@
+#!/usr/bin/env python3
+"""unlock.py BOOK.xlsx [PASSWORD-FILE]: opens a locked workbook beside itself, as BOOK.opened.xlsx. Without a file the password is
+asked for on the terminal. Needs python3-olefile and target/lib/libropeshadow.so (`make lib`, or ROPESHADOW names it)."""
+import ctypes, getpass, os, pathlib, sys, tempfile
+import olefile
+
+WORDS = {0: "opened", 2: "not locked by Standard encryption", 11: "the password has more than 255 units", 12: "wrong password",
+         13: "EncryptedPackage does not have the length that it states", 14: "the package is larger than 256 MiB",
+         15: "EncryptedPackage does not have the length that it states"}
+
+def library():
+    here = pathlib.Path(__file__).resolve().parent.parent / "target/lib/libropeshadow.so"
+    lib = ctypes.CDLL(os.environ.get("ROPESHADOW", str(here)))
+    # a slice is a pointer and a count; a bytes object is never null, even when empty
+    lib.ropeshadow_open.argtypes = [ctypes.c_char_p, ctypes.c_size_t] * 3 + [ctypes.c_void_p, ctypes.c_size_t]
+    lib.ropeshadow_open.restype = ctypes.c_uint64
+    return lib
+
+def opened(info, password, stream):
+    """The answer, and the package where it is 0."""
+    units = password.encode("utf-16-le")
+    out = ctypes.create_string_buffer(len(stream) + 1)
+    word = library().ropeshadow_open(info, len(info), units, len(units) // 2, stream, len(stream), out, len(stream))
+    answer, size = word % 65536, word // 65536
+    return answer, out.raw[:size]
+
+def save(path, contents):
+    """Written under another name, then renamed: there is never a half workbook."""
+    with tempfile.NamedTemporaryFile(dir=path.parent, prefix=path.name, delete=False) as half:
+        try:
+            half.write(contents)
+            half.flush()
+            os.fsync(half.fileno())
+            os.replace(half.name, path)
+        except BaseException:
+            os.unlink(half.name)
+            raise
+
+def main():
+    if len(sys.argv) not in (2, 3):
+        sys.exit(__doc__)
+    book = pathlib.Path(sys.argv[1])
+    with olefile.OleFileIO(str(book)) as ole:
+        info, stream = (ole.openstream(name).read() for name in ("EncryptionInfo", "EncryptedPackage"))
+    if len(sys.argv) == 3:
+        password = pathlib.Path(sys.argv[2]).read_text(encoding="utf-8").split("\n")[0].rstrip("\r")
+    else:
+        password = getpass.getpass()
+    answer, package = opened(info, password, stream)
+    if answer != 0:
+        words = WORDS.get(answer, "EncryptionInfo is damaged, or describes another kind of lock")
+        sys.exit(f"unlock.py: {book}: {words} (answer {answer})")
+    path = book.with_name(book.name.removesuffix(".xlsx") + ".opened.xlsx")
+    save(path, package)
+    print(f"{path}: {WORDS[answer]}, {len(package)} bytes")
+
+if __name__ == "__main__":
+    main()

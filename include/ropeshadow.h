@@ -1,0 +1,79 @@
+/* Ropeshadow: the package of a password-locked Office document (Standard encryption of MS-OFFCRYPTO) opened and sealed.
+ *
+ * Link target/lib/libropeshadow.a or target/lib/libropeshadow.so (`make lib`). It keeps no state, takes no memory from the heap, calls
+ * nothing but memcpy and memset, and may be called from several threads at once.
+ *
+ * Each function returns one number, answer + 65,536 x size; ROPESHADOW_ANSWER and ROPESHADOW_SIZE take it apart. Answer 0 is done;
+ * any other is the first broken rule, and then the size is 0 and every byte of `out` is as it was.
+ *
+ * The caller owns all memory, lends it for the call and gets it back: nothing is kept. Only `out` is written. `out` overlaps no
+ * input. No pointer is null, even where its count is 0. A count is of elements: bytes, or the 16-bit units of a password.
+ * Sixteen bytes by value are two numbers, the first eight bytes and the last eight, each low byte first.
+ */
+#ifndef ROPESHADOW_H
+#define ROPESHADOW_H
+
+#include <stddef.h>
+#include <stdint.h>
+
+#ifdef __cplusplus
+extern "C" {
+#endif
+
+#define ROPESHADOW_ANSWER(word) ((unsigned)((word) % 65536))
+#define ROPESHADOW_SIZE(word) ((size_t)((word) / 65536))
+
+/* The answers. */
+enum {
+    ROPESHADOW_DONE = 0,
+    ROPESHADOW_INFO_SHORT = 1,          /* EncryptionInfo has fewer than 12 bytes */
+    ROPESHADOW_VERSION = 2,             /* the minor version is not 2, or the major is not 2, 3 or 4: no Standard encryption */
+    ROPESHADOW_HEADER_SIZE = 3,         /* HeaderSize is below 32 or above 4,096 */
+    ROPESHADOW_INFO_LENGTH = 4,         /* EncryptionInfo is not HeaderSize + 84 bytes long */
+    ROPESHADOW_NAME_LENGTH = 5,         /* SizeExtra exceeds HeaderSize - 32, or the name's byte count is odd */
+    ROPESHADOW_ALG_ID = 6,              /* AlgID is not AES with 128, 192 or 256 bits */
+    ROPESHADOW_ALG_ID_HASH = 7,         /* AlgIDHash is not SHA-1 */
+    ROPESHADOW_KEY_SIZE = 8,            /* KeySize is not the one for AlgID; an AES key not of 16, 24 or 32 bytes */
+    ROPESHADOW_SALT_SIZE = 9,           /* SaltSize is not 16 */
+    ROPESHADOW_VERIFIER_HASH_SIZE = 10, /* VerifierHashSize is not 20 */
+    ROPESHADOW_PASSWORD_LONG = 11,      /* the password has more than 255 units */
+    ROPESHADOW_PASSWORD_WRONG = 12,     /* the password does not match the verifier */
+    ROPESHADOW_STREAM_SHORT = 13,       /* the package stream has fewer than 8 bytes */
+    ROPESHADOW_STREAM_SIZE = 14,        /* the package has more than 268,435,456 bytes */
+    ROPESHADOW_STREAM_LENGTH = 15,      /* what follows StreamSize is not StreamSize rounded up to a multiple of 16 */
+    ROPESHADOW_ROOM = 16,               /* `out` is too short */
+    ROPESHADOW_MESSAGE_LONG = 18        /* a message to hash has more than 65,536 bytes */
+};
+
+/* SHA-1 of a message (FIPS 180-4) to out. Answers 0, 18. */
+uint64_t ropeshadow_sha1(const uint8_t *message, size_t size, uint8_t out[20]);
+
+/* One block under AES (FIPS 197) to out. Answers 0, 8. */
+uint64_t ropeshadow_aes_encrypt(const uint8_t *key, size_t key_size, uint64_t block_low, uint64_t block_high, uint8_t out[16]);
+uint64_t ropeshadow_aes_decrypt(const uint8_t *key, size_t key_size, uint64_t block_low, uint64_t block_high, uint8_t out[16]);
+
+/* The descriptor of an EncryptionInfo stream to out, numbers low byte first: major (at 0, 2 bytes), minor (2, 2), AlgID (4, 4), key
+ * size in bytes (8, 4), place of the provider's name in EncryptionInfo (12, 4), its length in bytes (16, 4), salt (20, 16),
+ * EncryptedVerifier (36, 16), EncryptedVerifierHash (52, 32). Answers 0 to 10. */
+uint64_t ropeshadow_parse(const uint8_t *info, size_t info_size, uint8_t out[84]);
+
+/* Whether the password is the one that the document was locked with. Answers 0 to 12. */
+uint64_t ropeshadow_verdict(const uint8_t *info, size_t info_size, const uint16_t *password, size_t units);
+
+/* The package of an EncryptedPackage stream to the front of out, zeros after it to the end of out. The size is the number of
+ * package bytes; a room of stream_size bytes is always enough. Answers 0 to 16. */
+uint64_t ropeshadow_open(const uint8_t *info, size_t info_size, const uint16_t *password, size_t units,
+                         const uint8_t *stream, size_t stream_size, uint8_t *out, size_t room);
+
+/* A package as an EncryptedPackage stream under an existing EncryptionInfo to the front of out, zeros after it to the end of out.
+ * The last block is filled with the first of the sixteen filling bytes, which should be random. The size is that of the whole
+ * stream; a room of package_size + 23 bytes is always enough. Answers 0 to 12, 14, 16. */
+uint64_t ropeshadow_seal(const uint8_t *info, size_t info_size, const uint16_t *password, size_t units,
+                         const uint8_t *package, size_t package_size, uint64_t filling_low, uint64_t filling_high,
+                         uint8_t *out, size_t room);
+
+#ifdef __cplusplus
+}
+#endif
+
+#endif

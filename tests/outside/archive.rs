@@ -1,0 +1,114 @@
+//! A call of the outside interface, made through the archive and made by the second implementation. Either way the outcome is the
+//! returned number and the whole memory in which `out` lay, guard bytes before and after it included.
+use second::{aes::Aes, descriptor, key, package, sha1};
+
+#[link(name = "ropeshadow", kind = "static")]
+#[rustfmt::skip]
+extern "C" {
+    fn ropeshadow_sha1(message: *const u8, size: usize, out: *mut u8) -> u64;
+    fn ropeshadow_aes_encrypt(key: *const u8, key_size: usize, low: u64, high: u64, out: *mut u8) -> u64;
+    fn ropeshadow_aes_decrypt(key: *const u8, key_size: usize, low: u64, high: u64, out: *mut u8) -> u64;
+    fn ropeshadow_parse(info: *const u8, info_size: usize, out: *mut u8) -> u64;
+    fn ropeshadow_verdict(info: *const u8, info_size: usize, password: *const u16, units: usize) -> u64;
+    fn ropeshadow_open(info: *const u8, info_size: usize, password: *const u16, units: usize,
+                       stream: *const u8, stream_size: usize, out: *mut u8, room: usize) -> u64;
+    fn ropeshadow_seal(info: *const u8, info_size: usize, password: *const u16, units: usize,
+                       package: *const u8, package_size: usize, low: u64, high: u64, out: *mut u8, room: usize) -> u64;
+}
+
+#[derive(Clone, Debug, PartialEq)]
+pub enum Call {
+    Sha1 { message: Vec<u8> },
+    Encrypt { key: Vec<u8>, block: [u8; 16] },
+    Decrypt { key: Vec<u8>, block: [u8; 16] },
+    Parse { info: Vec<u8> },
+    Verdict { info: Vec<u8>, password: Vec<u16> },
+    Open { info: Vec<u8>, password: Vec<u16>, stream: Vec<u8>, room: usize },
+    Seal { info: Vec<u8>, password: Vec<u16>, package: Vec<u8>, filling: [u8; 16], room: usize },
+}
+
+#[derive(Debug, PartialEq)]
+pub struct Outcome {
+    pub word: u64,
+    pub memory: Vec<u8>,
+}
+
+const OLD: u8 = 0xa5;
+pub const GUARD: usize = 64;
+
+/// Sixteen bytes as the two numbers that they cross as.
+fn halves(bytes: &[u8; 16]) -> (u64, u64) {
+    let (low, high) = bytes.split_at(8);
+    (u64::from_le_bytes(low.try_into().unwrap()), u64::from_le_bytes(high.try_into().unwrap()))
+}
+
+impl Call {
+    /// The length of `out`.
+    pub fn room(&self) -> usize {
+        match self {
+            Call::Sha1 { .. } => 20,
+            Call::Encrypt { .. } | Call::Decrypt { .. } => 16,
+            Call::Parse { .. } => 84,
+            Call::Verdict { .. } => 0,
+            Call::Open { room, .. } | Call::Seal { room, .. } => *room,
+        }
+    }
+
+    /// Whether a call that is answered so has derived a key.
+    pub fn derives(&self, answer: u16) -> bool {
+        matches!(self, Call::Verdict { .. } | Call::Open { .. } | Call::Seal { .. }) && !(1..=11).contains(&answer)
+    }
+
+    pub fn by_archive(&self) -> Outcome {
+        let mut memory = vec![OLD; GUARD + self.room() + GUARD];
+        let out = memory[GUARD..].as_mut_ptr();
+        // SAFETY: each pointer is of a vector with its count beside it, and `out` has the room that is told and overlaps none.
+        let word = unsafe {
+            match self {
+                Call::Sha1 { message: m } => ropeshadow_sha1(m.as_ptr(), m.len(), out),
+                Call::Encrypt { key: k, block } => {
+                    let (low, high) = halves(block);
+                    ropeshadow_aes_encrypt(k.as_ptr(), k.len(), low, high, out)
+                }
+                Call::Decrypt { key: k, block } => {
+                    let (low, high) = halves(block);
+                    ropeshadow_aes_decrypt(k.as_ptr(), k.len(), low, high, out)
+                }
+                Call::Parse { info: i } => ropeshadow_parse(i.as_ptr(), i.len(), out),
+                Call::Verdict { info: i, password: p } => ropeshadow_verdict(i.as_ptr(), i.len(), p.as_ptr(), p.len()),
+                Call::Open { info: i, password: p, stream: s, room } => {
+                    ropeshadow_open(i.as_ptr(), i.len(), p.as_ptr(), p.len(), s.as_ptr(), s.len(), out, *room)
+                }
+                Call::Seal { info: i, password: p, package: s, filling, room } => {
+                    let (low, high) = halves(filling);
+                    ropeshadow_seal(i.as_ptr(), i.len(), p.as_ptr(), p.len(), s.as_ptr(), s.len(), low, high, out, *room)
+                }
+            }
+        };
+        Outcome { word, memory }
+    }
+
+    pub fn by_second(&self) -> Outcome {
+        let sized = matches!(self, Call::Open { .. } | Call::Seal { .. });
+        let written = match self {
+            Call::Sha1 { message } if message.len() > 65_536 => Err(18),
+            Call::Sha1 { message } => Ok(sha1::sha1(message).to_vec()),
+            Call::Encrypt { key, block } => Aes::new(key).map(|aes| aes.encrypt(*block).to_vec()).ok_or(8),
+            Call::Decrypt { key, block } => Aes::new(key).map(|aes| aes.decrypt(*block).to_vec()).ok_or(8),
+            Call::Parse { info } => descriptor::parse(info).map(|d| d.bytes()),
+            Call::Verdict { info, password } => key::unlock(info, password).map(|_| vec![]),
+            Call::Open { info, password, stream, room } => package::open(info, password, stream, *room),
+            Call::Seal { info, password, package, filling, room } => package::seal(info, password, package, *filling, *room),
+        };
+        let mut memory = vec![OLD; GUARD + self.room() + GUARD];
+        let word = match written {
+            Err(answer) => u64::from(answer),
+            Ok(bytes) => {
+                memory[GUARD..GUARD + self.room()].fill(0);
+                memory[GUARD..GUARD + bytes.len()].copy_from_slice(&bytes);
+                if sized { 65_536 * bytes.len() as u64 } else { 0 }
+            }
+        };
+        Outcome { word, memory }
+    }
+}

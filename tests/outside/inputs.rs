@@ -1,0 +1,388 @@
+//! What the archive is called with: every input that decides a rule, around each limit, and seeded random ones.
+use crate::archive::Call;
+use second::{aes::Aes, key::derive, package::sealed, sha1::sha1};
+
+/// SplitMix64: the same numbers for the same seed on every machine.
+pub struct Random(pub u64);
+
+impl Random {
+    pub fn next(&mut self) -> u64 {
+        self.0 = self.0.wrapping_add(0x9e37_79b9_7f4a_7c15);
+        let mut z = self.0;
+        z = (z ^ (z >> 30)).wrapping_mul(0xbf58_476d_1ce4_e5b9);
+        z = (z ^ (z >> 27)).wrapping_mul(0x94d0_49bb_1331_11eb);
+        z ^ (z >> 31)
+    }
+
+    pub fn below(&mut self, n: usize) -> usize {
+        (self.next() % n as u64) as usize
+    }
+
+    pub fn bytes(&mut self, n: usize) -> Vec<u8> {
+        (0..n).map(|_| self.next() as u8).collect()
+    }
+
+    pub fn sixteen(&mut self) -> [u8; 16] {
+        self.bytes(16).try_into().unwrap()
+    }
+
+    pub fn units(&mut self, n: usize) -> Vec<u16> {
+        (0..n).map(|_| self.next() as u16).collect()
+    }
+}
+
+/// A descriptor with the password that it is for.
+pub struct Lock {
+    pub info: Vec<u8>,
+    pub password: Vec<u16>,
+    pub aes: Aes,
+}
+
+const ALGORITHMS: [(u32, u32); 3] = [(0x660e, 128), (0x660f, 192), (0x6610, 256)];
+
+/// EncryptionInfo of that shape: what is not judged is random.
+fn info_of(r: &mut Random, major: u16, header: u32, extra: u32, alg: (u32, u32), salt: &[u8], verifier: &[u8], hash: &[u8]) -> Vec<u8> {
+    let mut info = [major.to_le_bytes(), 2u16.to_le_bytes()].concat();
+    for number in [r.next() as u32, header, r.next() as u32, extra, alg.0, 0x8004, alg.1, r.next() as u32, r.next() as u32, r.next() as u32]
+    {
+        info.extend(number.to_le_bytes());
+    }
+    info.extend(r.bytes(header as usize - 32));
+    [&info[..], &16u32.to_le_bytes(), salt, verifier, &20u32.to_le_bytes(), hash].concat()
+}
+
+pub fn lock(r: &mut Random, size: usize, password: Vec<u16>) -> Lock {
+    let alg = ALGORITHMS[size];
+    let salt = r.bytes(16);
+    let aes = Aes::new(&derive(&salt, &password).key[..alg.1 as usize / 8]).unwrap();
+    let verifier = r.sixteen();
+    let stored = [&sha1(&verifier)[..], &r.bytes(12)].concat();
+    let hash: Vec<u8> = stored.chunks(16).flat_map(|c| aes.encrypt(c.try_into().unwrap())).collect();
+    let major = 2 + r.below(3) as u16;
+    let info = info_of(r, major, 140, 0, alg, &salt, &aes.encrypt(verifier), &hash);
+    Lock { info, password, aes }
+}
+
+/// A call, with the answer where it is known without the second implementation.
+pub struct Case {
+    pub group: &'static str,
+    pub call: Call,
+    pub answer: Option<u16>,
+}
+
+pub struct Cases {
+    pub list: Vec<Case>,
+    r: Random,
+    locks: Vec<Lock>,
+}
+
+/// The places of EncryptionInfo's four-byte numbers where HeaderSize is 140, and the values around each limit.
+const NUMBERS: [usize; 12] = [0, 4, 8, 12, 16, 20, 24, 28, 32, 36, 152, 188];
+#[rustfmt::skip]
+const VALUES: [u32; 44] = [
+    0, 1, 2, 15, 16, 17, 19, 20, 21, 30, 31, 32, 33, 34, 106, 107, 108, 109, 110, 127, 128, 129, 139, 140, 141, 191, 192, 193, 255, 256, 257,
+    4_095, 4_096, 4_097, 0x660d, 0x660e, 0x660f, 0x6610, 0x6611, 0x6801, 0x8003, 0x8004, 0x8005, u32::MAX,
+];
+
+/// What is broken, or left as it is, for an opening: the descriptor, the password, the stream and the room.
+#[derive(Clone)]
+struct Opening {
+    info: Vec<u8>,
+    password: Vec<u16>,
+    stream: Vec<u8>,
+    room: usize,
+}
+
+fn put(bytes: &mut [u8], place: usize, number: u32) {
+    bytes[place..place + 4].copy_from_slice(&number.to_le_bytes());
+}
+
+/// Breaks the rule of that number, 1 to 16, and no earlier one.
+fn broken(o: &mut Opening, rule: u16) {
+    let header = |o: &Opening| o.info.len() - 84;
+    match rule {
+        2 => o.info[2] = 4,
+        3 => put(&mut o.info, 8, 31),
+        4 => o.info.push(0),
+        5 => put(&mut o.info, 16, 107),
+        6 => put(&mut o.info, 20, 0x6801),
+        7 => put(&mut o.info, 24, 0x8003),
+        8 => put(&mut o.info, 28, 129),
+        9 => {
+            let place = 12 + header(o);
+            put(&mut o.info, place, 17)
+        }
+        10 => {
+            let place = 12 + header(o) + 36;
+            put(&mut o.info, place, 0)
+        }
+        11 => o.password = vec![0x41; 256],
+        12 => o.password[0] ^= 1,
+        13 => o.stream.truncate(3),
+        14 => put(&mut o.stream, 4, 1),
+        15 => o.stream.push(0),
+        16 => o.room -= 1,
+        _ => o.info.truncate(11),
+    }
+}
+
+impl Cases {
+    pub fn new(seed: u64) -> Cases {
+        let mut r = Random(seed);
+        let locks = (0..3).map(|size| lock(&mut r, size, "Ropeshadow 42".encode_utf16().collect())).collect();
+        let mut cases = Cases { list: vec![], r, locks };
+        cases.hashes();
+        cases.blocks();
+        cases.shapes();
+        cases.flips();
+        cases.lengths();
+        cases.numbers();
+        cases.pairs();
+        cases.passwords();
+        cases.packages();
+        cases.streams();
+        cases.random();
+        cases
+    }
+
+    fn add(&mut self, group: &'static str, call: Call) {
+        self.list.push(Case { group, call, answer: None });
+    }
+
+    fn hashes(&mut self) {
+        for n in (0..=200).chain(4_090..=4_100).chain([65_535, 65_536, 65_537, 65_600, 200_000]) {
+            let message = self.r.bytes(n);
+            self.add("hash, each length", Call::Sha1 { message });
+        }
+        for _ in 0..1_500 {
+            let n = self.r.below(400);
+            let message = self.r.bytes(n);
+            self.add("hash, random", Call::Sha1 { message });
+        }
+    }
+
+    fn block(&mut self, group: &'static str, n: usize) {
+        let (key, block) = (self.r.bytes(n), self.r.sixteen());
+        self.add(group, Call::Encrypt { key: key.clone(), block });
+        self.add(group, Call::Decrypt { key, block });
+    }
+
+    fn blocks(&mut self) {
+        for n in (0..=70).chain([128, 192, 256, 65_536]) {
+            self.block("block, each key length", n);
+        }
+        for n in [16, 24, 32] {
+            for _ in 0..1_000 {
+                self.block("block, random", n);
+            }
+        }
+    }
+
+    /// Descriptors that are valid but for the password, of every shape at its limits.
+    fn shapes(&mut self) {
+        for alg in ALGORITHMS {
+            for major in [2, 3, 4] {
+                for header in [32, 33, 34, 35, 140, 4_094, 4_095, 4_096] {
+                    for extra in [0, 1, 2, header - 32] {
+                        let (salt, verifier, hash) = (self.r.bytes(16), self.r.bytes(16), self.r.bytes(32));
+                        let info = info_of(&mut self.r, major, header, extra, alg, &salt, &verifier, &hash);
+                        self.add("descriptor, each shape", Call::Parse { info });
+                    }
+                }
+            }
+        }
+    }
+
+    /// Each bit of a valid descriptor turned, and each byte for the calls that go on from there.
+    fn flips(&mut self) {
+        let filling = self.r.sixteen();
+        let package = self.r.bytes(33);
+        for size in 0..3 {
+            let (info, password) = (self.locks[size].info.clone(), self.locks[size].password.clone());
+            let stream = sealed(&self.locks[size].aes, &package, filling);
+            for at in 0..info.len() {
+                let turned = |bits: u8| {
+                    let mut info = info.clone();
+                    info[at] ^= bits;
+                    info
+                };
+                for bit in 0..8 {
+                    self.add("descriptor, each bit turned", Call::Parse { info: turned(1 << bit) });
+                }
+                let info = turned(1 << self.r.below(8));
+                let (password, stream, package) = (password.clone(), stream.clone(), package.clone());
+                let call = match (at + size) % 3 {
+                    0 => Call::Verdict { info, password },
+                    1 => Call::Open { info, password, stream, room: 40 },
+                    _ => Call::Seal { info, password, package, filling, room: 60 },
+                };
+                self.add("each byte of the descriptor changed", call);
+            }
+        }
+    }
+
+    /// Each length of EncryptionInfo up to a few bytes more than is right.
+    fn lengths(&mut self) {
+        for size in 0..3 {
+            let (info, password) = (self.locks[size].info.clone(), self.locks[size].password.clone());
+            let longer = [&info[..], &self.r.bytes(4)].concat();
+            for n in 0..=longer.len() {
+                let info = longer[..n].to_vec();
+                self.add("descriptor, each length", Call::Parse { info: info.clone() });
+                self.add("verdict, each length", Call::Verdict { info, password: password.clone() });
+            }
+        }
+    }
+
+    /// Each number of the descriptor at each value, in a stream as long as before and in one as long as HeaderSize says.
+    fn numbers(&mut self) {
+        for size in 0..3 {
+            for place in NUMBERS {
+                for value in VALUES {
+                    let mut info = self.locks[size].info.clone();
+                    put(&mut info, place, value);
+                    if place == 8 && value <= 8_192 {
+                        let mut resized = info.clone();
+                        resized.resize(value as usize + 84, 0);
+                        self.add("descriptor, numbers at limits", Call::Parse { info: resized });
+                    }
+                    self.add("descriptor, numbers at limits", Call::Parse { info });
+                }
+            }
+        }
+    }
+
+    /// Two rules broken at once: the lower number is the answer.
+    fn pairs(&mut self) {
+        for size in 0..3 {
+            let package = self.r.bytes(17);
+            let filling = self.r.sixteen();
+            let l = &self.locks[size];
+            let valid = Opening { info: l.info.clone(), password: l.password.clone(), stream: sealed(&l.aes, &package, filling), room: 17 };
+            for first in 1..=16 {
+                for second in first..=16 {
+                    let mut o = valid.clone();
+                    // from the last rule to the first, since a stream or a descriptor that is cut has no later places
+                    broken(&mut o, second);
+                    if first != second {
+                        broken(&mut o, first);
+                    }
+                    let (info, password) = (o.info.clone(), o.password.clone());
+                    if second <= 12 {
+                        let call =
+                            Call::Seal { info: info.clone(), password: password.clone(), package: package.clone(), filling, room: 39 };
+                        self.list.push(Case { group: "two rules broken", call, answer: Some(first) });
+                        let call = Call::Verdict { info: info.clone(), password: password.clone() };
+                        self.list.push(Case { group: "two rules broken", call, answer: Some(first) });
+                    }
+                    let call = Call::Open { info, password, stream: o.stream, room: o.room };
+                    self.list.push(Case { group: "two rules broken", call, answer: Some(first) });
+                }
+            }
+        }
+    }
+
+    /// Each length of a password, the right one and one with a unit changed.
+    fn passwords(&mut self) {
+        for n in 0..=257 {
+            let password = self.r.units(n);
+            let right = lock(&mut self.r, n % 3, password);
+            let answer = Some(if n > 255 { 11 } else { 0 });
+            let call = Call::Verdict { info: right.info.clone(), password: right.password.clone() };
+            self.list.push(Case { group: "password, each length", call, answer });
+            if n > 0 && n % 4 == 0 && n < 256 {
+                let mut password = right.password.clone();
+                password[self.r.below(n)] ^= 1 << self.r.below(16);
+                let call = Call::Verdict { info: right.info, password };
+                self.list.push(Case { group: "password, one unit changed", call, answer: Some(12) });
+            }
+        }
+    }
+
+    /// Each length of a package, sealed and opened: with just enough room, with one byte less and with more.
+    fn packages(&mut self) {
+        let rooms = |least: usize| [(Some(least), 0), (least.checked_sub(1), 16), (Some(least + 37), 0)];
+        for size in 0..3 {
+            for n in (0..=100).chain(4_093..=4_099).chain(65_533..=65_539) {
+                let (package, filling) = (self.r.bytes(n), self.r.sixteen());
+                let l = &self.locks[size];
+                let stream = sealed(&l.aes, &package, filling);
+                for (room, answer) in rooms(stream.len()) {
+                    let (info, password, package, room) = (l.info.clone(), l.password.clone(), package.clone(), room.unwrap());
+                    let call = Call::Seal { info, password, package, filling, room };
+                    self.list.push(Case { group: "sealed, each length", call, answer: Some(answer) });
+                }
+                for (room, answer) in rooms(n) {
+                    let Some(room) = room else { continue };
+                    let (info, password, stream) = (l.info.clone(), l.password.clone(), stream.clone());
+                    let call = Call::Open { info, password, stream, room };
+                    self.list.push(Case { group: "opened, each length", call, answer: Some(answer) });
+                }
+            }
+        }
+    }
+
+    fn open(&mut self, group: &'static str, size: usize, stream: Vec<u8>, room: usize) {
+        let (info, password) = (self.locks[size].info.clone(), self.locks[size].password.clone());
+        self.add(group, Call::Open { info, password, stream, room });
+    }
+
+    /// Streams that are cut, too long, of another StreamSize, or with a byte changed.
+    fn streams(&mut self) {
+        for (size, n) in [(0, 0), (0, 33), (1, 16), (1, 79), (2, 31), (2, 48)] {
+            let (package, filling) = (self.r.bytes(n), self.r.sixteen());
+            let stream = sealed(&self.locks[size].aes, &package, filling);
+            let longer = [&stream[..], &self.r.bytes(17)].concat();
+            for cut in 0..=longer.len() {
+                self.open("stream, each length", size, longer[..cut].to_vec(), 96);
+            }
+            let around = [n as u64 + 1, (n as u64).wrapping_sub(1), n as u64 + 16, (n as u64).wrapping_sub(16)];
+            let high = [8, 16, 24, 28, 29, 32, 40, 48, 56, 63].map(|shift| n as u64 + (1 << shift));
+            for told in around.into_iter().chain(high).chain([268_435_456, 268_435_457, u64::MAX]) {
+                let changed = [&told.to_le_bytes()[..], &stream[8..]].concat();
+                self.open("stream, another StreamSize", size, changed, 96);
+            }
+            for at in 0..stream.len() {
+                let mut changed = stream.clone();
+                changed[at] ^= 1 << self.r.below(8);
+                self.open("stream, each byte changed", size, changed, 96);
+            }
+        }
+    }
+
+    /// Anything at all, mostly in the shape of what it should be.
+    fn random(&mut self) {
+        for turn in 0..2_000 {
+            let size = self.r.below(3);
+            let mut info = self.locks[size].info.clone();
+            for _ in 0..self.r.below(3) {
+                let at = self.r.below(48); // where the rules look
+                info[at] = self.r.next() as u8;
+            }
+            if turn % 4 == 0 {
+                let n = self.r.below(260);
+                info = self.r.bytes(n);
+            }
+            let mut password = self.locks[size].password.clone();
+            if self.r.below(8) == 0 {
+                let n = self.r.below(300);
+                password = self.r.units(n);
+            }
+            let (n, room) = (self.r.below(400), self.r.below(600));
+            let (package, filling) = (self.r.bytes(n), self.r.sixteen());
+            let mut stream = sealed(&self.locks[size].aes, &package, filling);
+            if self.r.below(4) == 0 {
+                let n = self.r.below(64);
+                stream = self.r.bytes(n);
+            }
+            self.add(
+                "random",
+                if turn % 2 == 0 {
+                    Call::Open { info, password, stream, room }
+                } else {
+                    Call::Seal { info, password, package, filling, room }
+                },
+            );
+        }
+    }
+}

@@ -1,0 +1,112 @@
+//! Calls the archive and the second implementation with the same inputs and compares everything that comes out.
+//!
+//!     calls [SEED [CALL]]     all calls, or one of them with its inputs shown
+mod archive;
+mod inputs;
+
+use archive::{Call, GUARD};
+use inputs::{Case, Cases, Random, lock};
+use std::{collections::BTreeMap, env, process};
+
+/// The answer of a call that comes out the same both ways, or what is wrong with it.
+fn compared(case: &Case) -> Result<u16, String> {
+    let before = case.call.clone();
+    let (got, expected) = (case.call.by_archive(), case.call.by_second());
+    let answer = (expected.word % 65_536) as u16;
+    if got.word != expected.word {
+        let parts = |word: u64| format!("answer {} size {}", word % 65_536, word / 65_536);
+        return Err(format!("{}, and not {}", parts(got.word), parts(expected.word)));
+    }
+    if case.answer.is_some_and(|known| known != answer) {
+        return Err(format!("answer {answer} both ways, and not {}", case.answer.unwrap()));
+    }
+    if let Some(at) = (0..got.memory.len()).find(|&i| got.memory[i] != expected.memory[i]) {
+        let (place, room) = (at as isize - GUARD as isize, case.call.room());
+        return Err(format!("byte {place} of out (of {room}) is {:02x}, and not {:02x}", got.memory[at], expected.memory[at]));
+    }
+    if case.call != before {
+        return Err("an input was changed".to_string());
+    }
+    Ok(answer)
+}
+
+/// The largest package there is, sealed and opened, and one byte more. The second implementation checks every 509th block.
+fn largest(seed: u64) -> Result<u64, String> {
+    const LIMIT: usize = 268_435_456;
+    let mut r = Random(seed);
+    let l = lock(&mut r, 2, "the largest".encode_utf16().collect());
+    let (info, password) = (l.info, l.password);
+    let mut package: Vec<u8> = (0..LIMIT / 8).flat_map(|_| r.next().to_le_bytes()).collect();
+    let filling = r.sixteen();
+    let sealed = Call::Seal { info: info.clone(), password: password.clone(), package: package.clone(), filling, room: LIMIT + 8 };
+    let got = sealed.by_archive();
+    let stream = got.memory[GUARD..GUARD + LIMIT + 8].to_vec();
+    let as_told = got.word == 65_536 * (LIMIT as u64 + 8) && stream[..8] == (LIMIT as u64).to_le_bytes();
+    let block = |bytes: &[u8], i: usize| -> [u8; 16] { bytes[16 * i..16 * i + 16].try_into().unwrap() };
+    if !as_told || (0..LIMIT / 16).step_by(509).any(|i| l.aes.encrypt(block(&package, i)) != block(&stream[8..], i)) {
+        return Err("the largest package is not sealed".to_string());
+    }
+    let opened = Call::Open { info: info.clone(), password: password.clone(), stream: stream.clone(), room: LIMIT }.by_archive();
+    if opened.word != 65_536 * LIMIT as u64 || opened.memory[GUARD..GUARD + LIMIT] != package {
+        return Err("the largest package is not opened".to_string());
+    }
+    package.push(0);
+    let mut longer = [&stream[..], &[0; 16]].concat();
+    longer[0] = 1;
+    let seal = Call::Seal { info: info.clone(), password: password.clone(), package, filling, room: 24 };
+    let open = Call::Open { info, password, stream: longer, room: 24 };
+    for call in [seal, open] {
+        compared(&Case { group: "the largest", call, answer: Some(14) })?;
+    }
+    Ok(4)
+}
+
+fn main() {
+    let words: Vec<u64> = env::args().skip(1).map(|w| w.parse().expect("a number")).collect();
+    let seed = words.first().copied().unwrap_or(2026);
+    let cases = Cases::new(seed).list;
+    if let Some(&one) = words.get(1) {
+        let case = &cases[one as usize];
+        println!("{}: {:02x?}", case.group, case.call);
+        println!("{:?}", compared(case));
+        return;
+    }
+    let (mut passed, mut failed, mut derived) = (0u64, 0u64, 0u64);
+    let mut groups: BTreeMap<&str, u64> = BTreeMap::new();
+    let mut seen: BTreeMap<u16, u64> = BTreeMap::new();
+    for (number, case) in cases.iter().enumerate() {
+        *groups.entry(case.group).or_default() += 1;
+        match compared(case) {
+            Ok(answer) => {
+                passed += 1;
+                *seen.entry(answer).or_default() += 1;
+                derived += u64::from(case.call.derives(answer));
+            }
+            Err(what) => {
+                failed += 1;
+                if failed <= 20 {
+                    println!("FAILED seed {seed} call {number} ({}): {what}", case.group);
+                }
+            }
+        }
+    }
+    match largest(seed) {
+        Ok(calls) => passed += calls,
+        Err(what) => {
+            failed += 1;
+            println!("FAILED seed {seed}: {what}");
+        }
+    }
+    for (group, count) in groups {
+        println!("{count:>6} {group}");
+    }
+    for reply in (0..=16).chain([18]).filter(|reply| !seen.contains_key(reply)) {
+        failed += 1;
+        println!("FAILED: no call was answered {reply}");
+    }
+    let answers: Vec<String> = seen.iter().map(|(answer, count)| format!("{answer}: {count}")).collect();
+    println!("answers  {}", answers.join(", "));
+    println!("seed {seed}, {} calls compared, {derived} of them derived a key", passed + failed);
+    println!("calls: {passed} passed, {failed} failed");
+    process::exit(i32::from(failed != 0));
+}

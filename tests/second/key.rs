@@ -1,0 +1,41 @@
+//! From password to key, and the verdict (01, "From password to key"; replies 11 and 12), by the steps of the text.
+use crate::{aes::Aes, descriptor::parse, sha1::sha1};
+
+pub struct Derived {
+    pub h: [u8; 20],
+    pub b: [u8; 20],
+    pub key: Vec<u8>,
+}
+
+pub fn derive(salt: &[u8], password: &[u16]) -> Derived {
+    let text: Vec<u8> = password.iter().flat_map(|u| u.to_le_bytes()).collect();
+    let mut h = sha1(&[salt, &text].concat());
+    for i in 0..50_000u32 {
+        h = sha1(&[&i.to_le_bytes()[..], &h].concat());
+    }
+    let b = sha1(&[&h[..], &[0; 4]].concat());
+    let half = |mask: u8| {
+        let mut block = [mask; 64];
+        for (byte, x) in block.iter_mut().zip(b) {
+            *byte ^= x;
+        }
+        sha1(&block)
+    };
+    Derived { h, b, key: [half(0x36), half(0x5c)].concat() }
+}
+
+/// Whether the hash of the decrypted verifier is the first 20 bytes of the decrypted hash.
+pub fn matches(aes: &Aes, verifier: [u8; 16], hash: [u8; 32]) -> bool {
+    let stored: Vec<u8> = hash.chunks(16).flat_map(|c| aes.decrypt(c.try_into().unwrap())).collect();
+    sha1(&aes.decrypt(verifier)) == stored[..20]
+}
+
+/// The cipher under the password's key, or the first reply of 1 to 12 that applies.
+pub fn unlock(info: &[u8], password: &[u16]) -> Result<Aes, u16> {
+    let d = parse(info)?;
+    if password.len() > 255 {
+        return Err(11);
+    }
+    let aes = Aes::new(&derive(&d.salt, password).key[..d.key_size as usize]).unwrap();
+    if matches(&aes, d.verifier, d.hash) { Ok(aes) } else { Err(12) }
+}

@@ -1,0 +1,8 @@
+//! What 01 asks of the product, once more, by code that shares nothing with the crates: written from the standards and from 01 alone,
+//! in another language, with no library for what it checks. tests/second/main.rs prints the published vectors with it, and the
+//! outside test compares every call of the archive with it.
+pub mod aes;
+pub mod descriptor;
+pub mod key;
+pub mod package;
+pub mod sha1;
