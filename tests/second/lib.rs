@@ -1,6 +1,6 @@
 //! What 01 asks of the product, once more, by code that shares nothing with the crates: written from the standards and from 01 alone,
-//! in another language, with no library for what it checks. tests/second/main.rs prints the published vectors with it, and the
-//! outside test compares every call of the archive with it.
+//! in another language, with no library for what it checks. vectors.rs prints the published vectors with it and sheets.rs the cases of
+//! opening and sealing, and the outside test compares every call of the archive with it.
 pub mod aes;
 pub mod descriptor;
 pub mod key;
