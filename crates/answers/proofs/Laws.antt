@@ -5,6 +5,7 @@ use mathlib.Core.Bool.{Bool, true, false, cond, _&&_}
 use mathlib.Core.List.{List, [], _∷_, _++_}
 use Prim.Native.Nat.{ℕ, _<_}
 use native.Mathlib.Omega.{arith}
+use borrow.Author.Tests.{eqb-true, eqb-false}
 use lib.Dec.{T, ltb, eqb, ltb→lt}
 use Rattle.answers.specs.Rules.{Rule, rule, firstOf, AllHold, First, numbered, testOf, numbers, OneOf}
 
@@ -96,6 +97,14 @@ stop (r ∷ rs) ts h =
     elim (either (r .broken)) [
       | inl e ↦ broke r (rs ++ ts) e ∙ sym (broke r rs e)
       | inr e ↦ held r (rs ++ ts) e ∙ stop rs ts (λ z. h (held r rs e ∙ z)) ∙ sym (held r rs e)
+    ]
+
+-- so where both together answer 0 each of them does
+pub both-zero : (rs ts : List Rule) → T (numbered rs) → firstOf (rs ++ ts) ≡ 0 → (firstOf rs ≡ 0) × (firstOf ts ≡ 0)
+both-zero rs ts t h =
+    elim (either (eqb (firstOf rs) 0)) [
+      | inl e ↦ let z : firstOf rs ≡ 0 = eqb-true _ _ e in (z, sym (then rs ts t z) ∙ h)
+      | inr e ↦ let n : firstOf rs ≡ 0 → ⊥ = eqb-false _ _ e in absurd (n (sym (stop rs ts n) ∙ h))
     ]
 
 -- lists end to end hold exactly where both do

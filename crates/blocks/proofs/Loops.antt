@@ -4,18 +4,10 @@ use mathlib.Core.List.{List, _++_}
 use Prim.Native.Nat.{ℕ, _+_, _-_, _*_, _/_, _%_, _≤_}
 use native.Mathlib.Omega.{arith}
 use lib.ListN.{length, take, drop, length-append, length-drop}
-use lib.Seq.{paste, take-take, take-add, drop-at, take-append-le, drop-append-le, length-take-le}
-use Rattle.octets.proofs.Parts.{paste-paste, paste-whole}
+use lib.Seq.{paste, take-take, drop-at, take-append-le, drop-append-le}
+use Rattle.octets.proofs.Parts.{paste-on, paste-whole}
 use Rattle.blocks.specs.Blocks.{block, ecb}
 use Rattle.blocks.proofs.Ecb.{length-ecb, block-ecb}
-
--- what comes next of a list, laid where its first part ends
-pub paste-on : (d x y : List ℕ) (at n m end : ℕ) → n ≤ length x → m ≤ length y → at + n ≡ end → end ≤ length d → take m y ≡ take m (drop n x)
-    → paste (paste d at x n) end y m ≡ paste d at x (n + m)
-paste-on d x y at n m end hx hy hn hd e =
-    let p = paste-paste d (take n x) (take m y) at n m (length-take-le n x hx) (length-take-le m y hy) (omega arith) in
-    let q = rw (take-take n n x (omega arith), take-take m m y (omega arith)) at p in
-    rw (← hn) (q ∙ rw (e, ← take-add n m x, take-take (n + m) (n + m) x (omega arith)))
 
 module _ (f : List ℕ → List ℕ) (sized : (b : List ℕ) → length (f b) ≡ 16) (s : List ℕ) where
   -- a turn: m bytes of the block at i go to their place
@@ -30,14 +22,7 @@ module _ (f : List ℕ → List ℕ) (sized : (b : List ℕ) → length (f b) �
       let cut : take m b ≡ take m (drop i (ecb f s)) = rw (eb, ← it) (take-take m 16 (drop i (ecb f s)) hm) in
       en ∙ ap (λ (l : List ℕ). paste l end b m) eo ∙ paste-on d (ecb f s) b at i m end (omega arith) (omega arith) he hd cut
 
--- ---- a block of contents then filling
-
--- it lies in the contents
-pub in-front : (s t : List ℕ) (at : ℕ) → at + 16 ≤ length s → take 16 (drop at s) ≡ take 16 (drop at (s ++ t))
-in-front s t at h =
-    rw (drop-append-le at s t (omega arith), take-append-le 16 (drop at s) t (simp length-drop (omega arith)))
-
--- or it takes the last of the contents and the first of the filling
+-- a block that takes the last of the contents and the first of the filling
 pub over-end : (s t d e r : List ℕ) (at left : ℕ) → at + left ≡ length s → left ≤ 16 → length t ≡ 16 → length d ≡ 16
     → e ≡ paste d 0 (drop at s) left → r ≡ paste e left t (16 - left) → r ≡ take 16 (drop at (s ++ t))
 over-end s t d e r at left hs hl ht hd ee er =

@@ -6,7 +6,7 @@ use native.Mathlib.Nat.{add-assoc, zero-add, suc-add, sub-zero, zero-sub, suc-su
 use native.Mathlib.Numerals.{add-one}
 use native.Mathlib.Omega.{arith}
 use lib.ListN.{length, getD, take, drop, set, replicate, length-append, length-drop, drop-of-length-le, take-append-drop, replicate-append-replicate}
-use lib.Seq.{paste, paste-suc, take-all, take-nil, drop-nil, take-take, take-add, take-at, drop-at, drop-drop, take-paste, drop-paste, drop-append-add, length-take-le}
+use lib.Seq.{paste, paste-suc, take-all, take-nil, drop-nil, take-take, take-add, take-at, drop-at, drop-drop, take-paste, drop-paste, drop-append-add, take-append-le, drop-append-le, length-take-le}
 
 module _ {A : Type 0} where
   -- what lies past o in the first o + n is the part at o
@@ -24,6 +24,11 @@ module _ {A : Type 0} where
       let e : o + (m - o) ≡ m = omega arith in
       let f : drop o (take m (drop a s)) ≡ take (m - o) (drop o (drop a s)) = rw e at (drop-take o (m - o) (drop a s)) in
       rw (f, take-take n (m - o) (drop o (drop a s)) (omega arith), drop-drop)
+
+  -- a part that ends before what stands behind
+  pub part-front : (n o : ℕ) (s t : List A) → o + n ≤ length s → take n (drop o s) ≡ take n (drop o (s ++ t))
+  part-front n o s t h =
+      rw (drop-append-le o s t (omega arith), take-append-le n (drop o s) t (simp length-drop (omega arith)))
 
   pub drop-replicate : (o n : ℕ) (x : A) → drop o (replicate n x) ≡ replicate (n - o) x
   drop-replicate zero n x = rw sub-zero
@@ -50,7 +55,15 @@ module _ {A : Type 0} where
       sym (drop-drop m (at + n) (paste d at x n)) ∙ ap (drop m) (drop-paste d at x n (omega arith) (omega arith)) ∙ rw (drop-drop, add-assoc) in
       rw (take-paste d at x n (omega arith) (omega arith), past, xs, ys, all) (simp append-assoc)
 
-  -- the same, step by step
+  -- what comes next of a list, laid where its first part ends
+  pub paste-on : (d x y : List A) (at n m end : ℕ) → n ≤ length x → m ≤ length y → at + n ≡ end → end ≤ length d → take m y ≡ take m (drop n x)
+      → paste (paste d at x n) end y m ≡ paste d at x (n + m)
+  paste-on d x y at n m end hx hy hn hd e =
+      let p = paste-paste d (take n x) (take m y) at n m (length-take-le n x hx) (length-take-le m y hy) (omega arith) in
+      let q = rw (take-take n n x (omega arith), take-take m m y (omega arith)) at p in
+      rw (← hn) (q ∙ rw (e, ← take-add n m x, take-take (n + m) (n + m) x (omega arith)))
+
+  -- the same as `paste-paste`, step by step
   pub paste-two : (x y z : List A) (n m at : ℕ) (d e f : List A) → length x ≡ n → length y ≡ m → x ++ y ≡ z → at + (n + m) ≤ length d
       → e ≡ paste d at x n → f ≡ paste e (at + n) y m → f ≡ paste d at z (n + m)
   paste-two x y z n m at d e f hx hy q h p r =

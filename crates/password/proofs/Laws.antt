@@ -12,7 +12,7 @@ use lib.Seq.{length-take-le}
 use Rattle.octets.specs.Octets.{Bytes, same}
 use Rattle.octets.proofs.Below.{append-below, take-below}
 use Rattle.answers.specs.Rules.{firstOf}
-use Rattle.answers.proofs.Laws.{either, stop, then}
+use Rattle.answers.proofs.Laws.{either, stop, then, both-zero}
 use Rattle.sha1.proofs.Laws.{length-sha1, sha1-bytes}
 use Rattle.sha1.specs.Sha1.{sha1}
 use Rattle.aes.specs.Aes.{keyLength, expanded, decryption}
@@ -34,6 +34,14 @@ pub material-bytes : (salt p : List ℕ) → Bytes (Key.material salt p)
 unfolding Key.material Key.derived
 material-bytes salt p = append-below _ _ (sha1-bytes _) (sha1-bytes _)
 
+pub keyBytes-bytes : (n : ℕ) (salt p : List ℕ) → Bytes (Key.keyBytes n salt p)
+unfolding Key.keyBytes
+keyBytes-bytes n salt p = take-below n (Key.material salt p) (material-bytes salt p)
+
+pub key-bytes : (d : Descriptor) (p : List ℕ) → Bytes (Verdict.keyOf d p)
+unfolding Verdict.keyOf
+key-bytes d p = keyBytes-bytes (d .key .0) (d .salt) p
+
 -- the key of a descriptor within its ranges is as long as it says
 module _ (d : Descriptor) (p : List ℕ) (h : Sound d) where
   pub key-short : d .key .0 ≤ 32
@@ -45,10 +53,6 @@ module _ (d : Descriptor) (p : List ℕ) (h : Sound d) where
 
   pub key-fits : keyLength (length (Verdict.keyOf d p)) ≡ true
   key-fits = rw length-key (key-lengths (d .key .0) (h .key))
-
-  pub key-bytes : Bytes (Verdict.keyOf d p)
-  unfolding Verdict.keyOf Key.keyBytes
-  key-bytes = take-below (d .key .0) (Key.material (d .salt) p) (material-bytes (d .salt) p)
 
 -- ---- the ways out
 
@@ -91,6 +95,16 @@ unlocked-answer info p =
       | inl e ↦ rw e (sym (eqb-true _ _ e))
       | inr e ↦ rw e
     ]
+
+-- a verdict of 0 means an admitted EncryptionInfo, and comes with the expanded key
+module _ (info p : List ℕ) (v : Verdict.judged info p ≡ 0) where
+  pub admitted : Admitted info
+  unfolding Verdict.judged Verdict.verdictRules
+  admitted = both-zero (infoRules info) (Verdict.passwordRules (described info) p) (info-numbered info) v .0
+
+  pub unlocked-key : Verdict.unlocked info p .key ≡ expanded (Verdict.keyOf (described info) p)
+  unfolding Verdict.unlocked
+  unlocked-key = simp v
 
 -- ---- what the verdict depends on
 

@@ -14,11 +14,11 @@ use Rattle.password.specs.Verdict.{judged}
 use Rattle.blocks.specs.Stream.{Undone}
 use Rattle.blocks.specs.Blocks.{whole}
 use Rattle.sheet.specs.Frame.{Pair, Lawful, Admitted, Sound, Inverse, streamSize, streamOf, pairOf}
-use Rattle.sheet.specs.Sheet.{limit, lengths, rounded, sealedSize, openRules, sealRules, filledWith, Left, ended}
+use Rattle.sheet.specs.Sheet.{limit, lengths, rounded, sealedSize, openRules, sealRules, filledWith, Left, ended, gives}
 use Rattle.sheet.proofs.Frame.{inverse, one-pair, length-streamOf, size-streamOf, length-pack}
 use Rattle.sheet.proofs.Lengths.{allowed-whole, Openable, openable, openable-admitted, admitted-openable, Sealable, sealable}
 use Rattle.sheet.proofs.Laws.{ended-answer, open-answer, open-done, open-zero, seal-answer, seal-done, seal-zero, filling-least, filled-begins}
-use Rattle.promises.specs.Words.{Parser, Judge, Opener, Sealer, Accepted, gives, publishedKey}
+use Rattle.promises.specs.Words.{Parser, Judge, Opener, Sealer, Accepted, publishedKey}
 use Rattle.promises.specs.Two.{Demand2}
 use Rattle.promises.specs.Three.{Begins, Demand3}
 use Rattle.promises.proofs.Inverts.{Own, Inverts, exact}

@@ -8,8 +8,8 @@ use lib.ListN.{length, replicate}
 use lib.Seq.{take-at}
 use Rattle.answers.specs.Rules.{Rule, firstOf, numbered, OneOf}
 use Rattle.answers.proofs.Laws.{none-broken, first-broken}
-use Rattle.sheet.specs.Sheet.{ended}
-use Rattle.promises.specs.Words.{Answers, written, gives}
+use Rattle.sheet.specs.Sheet.{ended, gives}
+use Rattle.promises.specs.Words.{Answers, written}
 use Rattle.promises.specs.One.{Call}
 
 -- a call keeps demand 1 if its answer is listed and, where that is 0, its content is of its size and has room

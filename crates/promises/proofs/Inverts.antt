@@ -6,8 +6,8 @@ use Prim.Native.Nat.{ℕ, _+_, _≤_}
 use lib.ListN.{length, take}
 use Rattle.octets.specs.Octets.{Bytes}
 use Rattle.sheet.specs.Frame.{Pair, Lawful}
-use Rattle.sheet.specs.Sheet.{lengths, least}
-use Rattle.promises.specs.Words.{Opener, Sealer, Accepted, written, gives}
+use Rattle.sheet.specs.Sheet.{lengths, least, gives}
+use Rattle.promises.specs.Words.{Opener, Sealer, Accepted, written}
 use Rattle.promises.specs.Three.{Begins, Seals, Sealed, Round, Only, Exact}
 use Rattle.promises.proofs.Ended.{wrote}
 

@@ -18,9 +18,9 @@ use Rattle.sha1.proofs.Laws.{length-sha1, sha1-bytes}
 use Rattle.aes.specs.Aes.{encryption, decryption}
 use Rattle.aes.proofs.Keys.{decryption-encryption, length-encryption, encryption-bytes}
 use Rattle.descriptor.specs.Info as Info
-use Rattle.password.specs.Key.{material, keyBytes}
+use Rattle.password.specs.Key.{keyBytes}
 use Rattle.password.specs.Verdict.{judged}
-use Rattle.password.proofs.Laws.{material-bytes}
+use Rattle.password.proofs.Laws.{keyBytes-bytes}
 use Rattle.promises.specs.Two.{Matches}
 use Rattle.promises.proofs.Rows.{_and_}
 use Rattle.promises.proofs.Two.{demand-2}
@@ -67,8 +67,8 @@ module _ (alg bits : ℕ) (salt password verifier : List ℕ) where
   made = front 32 0 alg bits ++ (leBytes 4 16 ++ (salt ++ rest))
 
   key-bytes : Bytes key
-  unfolding key keyBytes
-  key-bytes = take-below (bits / 8) (material salt password) (material-bytes salt password)
+  unfolding key
+  key-bytes = keyBytes-bytes (bits / 8) salt password
 
   hash-bytes : Bytes hash
   unfolding hash

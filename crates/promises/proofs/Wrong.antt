@@ -15,10 +15,10 @@ use Rattle.aes.proofs.Keys.{length-encryption, length-decryption}
 use Rattle.password.specs.Verdict.{judged}
 use Rattle.blocks.specs.Blocks.{block, blocks, ecb}
 use Rattle.sheet.specs.Frame.{streamSize}
-use Rattle.sheet.specs.Sheet.{limit, least, rounded, sealedSize, Left, packageOf, opened, sealed}
+use Rattle.sheet.specs.Sheet.{limit, least, rounded, sealedSize, Left, packageOf, opened, sealed, gives}
 use Rattle.sheet.proofs.Lengths.{Openable, openable, Sealable, sealable}
 use Rattle.sheet.proofs.Laws.{open-done, seal-done}
-use Rattle.promises.specs.Words.{Parser, Judge, Opener, Sealer, Accepted, written, gives, publishedKey}
+use Rattle.promises.specs.Words.{Parser, Judge, Opener, Sealer, Accepted, written, publishedKey}
 use Rattle.promises.specs.One.{Demand1}
 use Rattle.promises.specs.Two.{Demand2}
 use Rattle.promises.specs.Three.{Round, Demand3}

@@ -8,8 +8,8 @@ use Prim.Native.Nat.{ℕ, _+_, _≤_}
 use lib.ListN.{length, take}
 use Rattle.octets.specs.Octets.{Bytes}
 use Rattle.sheet.specs.Frame.{Pair, Lawful}
-use Rattle.sheet.specs.Sheet.{lengths, least}
-use Rattle.promises.specs.Words.{Judge, Opener, Sealer, Accepted, written, gives}
+use Rattle.sheet.specs.Sheet.{lengths, least, gives}
+use Rattle.promises.specs.Words.{Judge, Opener, Sealer, Accepted, written}
 
 -- a sixteen-byte value that begins with the pair's filling
 pub record Begins (p : Pair) (given : List ℕ) : Type 0 where

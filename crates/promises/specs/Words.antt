@@ -2,14 +2,14 @@
 -- made by ours, `parsed`, `judged`, `opened` and `sealed`, or asked of any other. Assumes nothing.
 use mathlib.Core.Path.{_≡_}
 use mathlib.Core.Logic.{_↔_}
-use mathlib.Core.List.{List, _++_}
-use Prim.Native.Nat.{ℕ, _-_, _/_, _<_}
-use lib.ListN.{length, take, replicate}
+use mathlib.Core.List.{List}
+use Prim.Native.Nat.{ℕ, _/_, _<_}
+use lib.ListN.{take}
 use Rattle.answers.specs.Rules.{Rule, AllHold, First}
 use Rattle.descriptor.specs.Info.{keySize, saltOf}
 use Rattle.descriptor.specs.declared.Parsed.{Parsed}
 use Rattle.password.specs.Key.{keyBytes}
-use Rattle.sheet.specs.Sheet.{Left, left, reply}
+use Rattle.sheet.specs.Sheet.{Left}
 
 -- ---- the entries
 
@@ -38,10 +38,6 @@ Accepted l = l .reply .answer ≡ 0
 -- what an accepted call wrote: as many bytes of the output as its size says
 abbrev pub written : Left → List ℕ
 written l = take (l .reply .size) (l .out)
-
--- what a call leaves that gives a content: answer 0, the content's size, the content, and zeros to the end of the output
-abbrev pub gives : (content out : List ℕ) → Left
-gives content out = left (reply 0 (length content)) (content ++ replicate (length out - length content) 0)
 
 -- n is the answer by the rules: 0 exactly where none is broken, and m above 0 exactly where the first one broken is numbered m
 pub record Answers (rules : List Rule) (n : ℕ) : Type 0 where

@@ -8,9 +8,9 @@ use lib.ListN.{length}
 use Rattle.octets.specs.Octets.{Bytes}
 use Rattle.aes.specs.Aes.{keyLength, expanded}
 use Rattle.aes.specs.declared.Expanded.{Expanded}
-use Rattle.descriptor.specs.Info.{infoRules, described}
+use Rattle.descriptor.specs.Info.{described}
 use Rattle.descriptor.proofs.Laws as descriptor
-use Rattle.password.specs.Verdict.{judged, verdictRules, passwordRules, unlocked}
+use Rattle.password.specs.Verdict.{judged, unlocked}
 use Rattle.password.specs.declared.Unlocked.{Unlocked}
 use Rattle.password.proofs.Laws as password
 use Rattle.blocks.specs.Blocks.{whole, ecb, encrypting, decrypting}
@@ -19,21 +19,15 @@ use Rattle.sheet.specs.Frame.{Sound, Inverse}
 use Rattle.sheet.specs.Sheet.{limit, lengths, sheetKey, sealing, opening}
 use Rattle.sheet.proofs.Frame.{inverse}
 use Rattle.sheet.proofs.Lengths.{allowed-whole}
-use Rattle.sheet.proofs.Laws.{both-zero}
 
 module _ (info p : List ℕ) (v : judged info p ≡ 0) where
-  -- EncryptionInfo breaks no rule
-  pub info-admitted : descriptor.Admitted info
-  unfolding judged verdictRules
-  info-admitted = both-zero (infoRules info) (passwordRules (described info) p) (descriptor.info-numbered info) v .0
-
   pub key-fits : keyLength (length (sheetKey info p)) ≡ true
   unfolding sheetKey
-  key-fits = password.key-fits (described info) p (descriptor.sound info info-admitted)
+  key-fits = password.key-fits (described info) p (descriptor.sound info (password.admitted info p v))
 
   pub key-bytes : Bytes (sheetKey info p)
   unfolding sheetKey
-  key-bytes = password.key-bytes (described info) p (descriptor.sound info info-admitted)
+  key-bytes = password.key-bytes (described info) p
 
   -- ---- demand 3's instance of the frame
 
@@ -51,13 +45,10 @@ module _ (info p : List ℕ) (v : judged info p ≡ 0) where
 
   -- ---- the key as `unlock` gives it
 
-  pub unlocked-key : unlocked info p .key ≡ expanded (sheetKey info p)
-  unfolding unlocked sheetKey
-  unlocked-key = simp v
-
   module _ (u : Unlocked) (e : u ≡ unlocked info p) where
     is : u .key ≡ expanded (sheetKey info p)
-    is = ap (λ (x : Unlocked). x .key) e ∙ unlocked-key
+    unfolding sheetKey
+    is = ap (λ (x : Unlocked). x .key) e ∙ password.unlocked-key info p v
 
     pub rounds-known : (0 < u .key .rounds) × (u .key .rounds ≤ 14)
     rounds-known = subst⁻¹ (λ (x : Expanded). (0 < x .rounds) × (x .rounds ≤ 14)) is (expanded-rounds (sheetKey info p) key-fits)

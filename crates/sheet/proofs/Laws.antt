@@ -1,19 +1,18 @@
 -- The ways out of opening and sealing, a law for each: a refusal by the verdict, a refusal by what is opened or sealed, and the
 -- content. Assumes nothing.
 use mathlib.Core.Path.{_≡_, refl, sym, ap, _∙_}
-use mathlib.Core.Logic.{inl, inr}
 use mathlib.Core.List.{List, _++_}
 use Prim.Native.Nat.{ℕ, zero, suc, _+_, _-_, _≤_}
 use native.Mathlib.Omega.{arith}
-use borrow.Author.Tests.{eq-eqb, eqb-true, eqb-false}
-use lib.Dec.{T, eqb}
+use borrow.Author.Tests.{eq-eqb, eqb-true}
+use lib.Dec.{T}
 use lib.ListN.{length, take, drop, replicate, length-append}
 use lib.Seq.{length-take-le}
 use Rattle.octets.specs.Octets.{Bytes}
 use Rattle.octets.proofs.Below.{take-below}
 use Rattle.octets.proofs.Numbers.{length-leBytes}
 use Rattle.answers.specs.Rules.{Rule, firstOf, numbered}
-use Rattle.answers.proofs.Laws.{either, then, stop}
+use Rattle.answers.proofs.Laws.{then, stop, both-zero}
 use Rattle.password.specs.Verdict.{judged, verdictRules, passwordRules}
 use Rattle.descriptor.specs.Info.{infoRules}
 use Rattle.blocks.proofs.Aes.{length-encrypted, length-decrypted}
@@ -45,14 +44,6 @@ module _ (rs ts : List Rule) (size : ℕ) (content out : List ℕ) where
     by-none : firstOf ts ≡ 0 → ended (firstOf (rs ++ ts)) size content out ≡ left (reply 0 size) (content ++ replicate (length out - size) 0)
     unfolding ended
     by-none h = rw (then rs ts t z, h)
-
--- where the whole answers 0 each of them does
-pub both-zero : (rs ts : List Rule) → T (numbered rs) → firstOf (rs ++ ts) ≡ 0 → (firstOf rs ≡ 0) × (firstOf ts ≡ 0)
-both-zero rs ts t h =
-    elim (either (eqb (firstOf rs) 0)) [
-      | inl e ↦ let z : firstOf rs ≡ 0 = eqb-true _ _ e in (z, sym (then rs ts t z) ∙ h)
-      | inr e ↦ let n : firstOf rs ≡ 0 → ⊥ = eqb-false _ _ e in absurd (n (sym (stop rs ts n) ∙ h))
-    ]
 
 -- ---- opening and sealing
 

@@ -1,23 +1,19 @@
 -- Under an accepted password each lawful pair seals into a stream that opens to its package, and each stream that opens is the
 -- sealing of its own pair and of no other: the frame's inverse, said of the calls. Assumes nothing.
 use mathlib.Core.Path.{_≡_, ap, _∙_}
-use mathlib.Core.List.{List, _++_}
-use Prim.Native.Nat.{ℕ, _-_, _≤_}
+use mathlib.Core.List.{List}
+use Prim.Native.Nat.{ℕ, _≤_}
 use native.Mathlib.Omega.{arith}
-use lib.ListN.{length, take, replicate}
+use lib.ListN.{length, take}
 use Rattle.octets.specs.Octets.{Bytes}
 use Rattle.password.specs.Verdict.{judged}
 use Rattle.blocks.specs.Blocks.{whole}
 use Rattle.sheet.specs.Frame.{Pair, Lawful, Admitted, streamSize, pairOf}
-use Rattle.sheet.specs.Sheet.{lengths, sealedSize, sealing, opening, packageOf, sealingOf, Left, left, reply, opened, sealed}
+use Rattle.sheet.specs.Sheet.{lengths, sealedSize, sealing, opening, packageOf, sealingOf, gives, opened, sealed}
 use Rattle.sheet.proofs.Frame.{size-streamOf, one-pair}
 use Rattle.sheet.proofs.Lengths.{openable, openable-admitted, admitted-openable, sealable}
 use Rattle.sheet.proofs.Laws.{open-done, open-zero, seal-done, length-sealing, filling-least, filled-begins}
 use Rattle.sheet.proofs.Keyed.{sound, inverted}
-
--- answer 0 with the content, its size, and zeros to the end of the output
-abbrev pub gives : (content out : List ℕ) → Left
-gives content out = left (reply 0 (length content)) (content ++ replicate (length out - length content) 0)
 
 module _ (info password : List ℕ) (v : judged info password ≡ 0) where
   module _ (p : Pair) (w : Lawful lengths p) where

@@ -113,6 +113,10 @@ left r o = record { reply = r; out = o }
 abbrev pub reply : ℕ → ℕ → Reply
 reply answer size = record { answer = answer; size = size }
 
+-- one that gives a content: answer 0, the content's size, the content, and zeros to the end of the output
+abbrev pub gives : (content out : List ℕ) → Left
+gives content out = left (reply 0 (length content)) (content ++ replicate (length out - length content) 0)
+
 -- by its answer: with 0 the content of that size and zeros after it; with any other size 0, and the output as it was
 unfoldable pub ended : (answer size : ℕ) (content out : List ℕ) → Left
 ended zero size content out = left (reply 0 size) (content ++ replicate (length out - size) 0)

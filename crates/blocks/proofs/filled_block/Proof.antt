@@ -4,14 +4,15 @@ use Prim.Native.Nat.{_-_}
 use native.Mathlib.Omega.{arith}
 use borrow.Author.Needs.{needs}
 use lib.ListN.{length, replicate}
-use Rattle.blocks.proofs.Loops.{in-front, over-end}
+use Rattle.octets.proofs.Parts.{part-front}
+use Rattle.blocks.proofs.Loops.{over-end}
 use Rattle.blocks.proofs.filled_block.Statement.{statement}
 use Rattle.blocks.proofs.filled_block.Tie as tie
 
 returns : tie.Need-returns
 returns c =
     let a = c .before .before .before .args in
-    c .block .ensures ∙ in-front (a .s .now) (a .filling .now) (a .at) (omega arith)
+    c .block .ensures ∙ part-front 16 (a .at) (a .s .now) (a .filling .now) (omega arith)
 
 returns-2 : tie.Need-returns-2
 returns-2 c =
