@@ -1,4 +1,4 @@
-// Opens the locked sheet in the folder that it is started in: `program` says how.
+// Opens the locked sheet in the folder that it is started in: crates/program says how.
 fn main() {
     program::run();
 }
