@@ -1,0 +1,2 @@
+-- `Laws`: what some three files open to lies within the output.
+pub mod Laws

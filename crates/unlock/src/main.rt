@@ -1,0 +1,4 @@
+// Opens the locked sheet in the folder that it is started in: crates/program says how.
+fn main() {
+    program::run();
+}

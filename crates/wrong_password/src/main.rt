@@ -1,0 +1,4 @@
+// `unlock` on the sample sheet with a password that does not match.
+fn main() {
+    program::run();
+}
