@@ -1,16 +1,17 @@
-# test: the whole gate. second: the independent vectors alone. bench: times beside C and OpenSSL (needs libssl-dev).
-# lib: the outside interface as target/lib/libropeshadow.a and .so. outside: the archive against the second implementation and real
-# producers (installs Debian packages). fuzz: ten minutes of libFuzzer on it (installs clang).
-.PHONY: test second bench lib outside fuzz
+# open: the sample sheet, opened by the proved program. test: the whole gate. second: the second implementation's lines alone.
+# lib: the outside interface as target/lib/libropeshadow.a and .so. outside: the archive and the program against the second
+# implementation and real producers (installs Debian packages). fuzz: ten minutes of libFuzzer on it (installs clang).
+# bench: times beside other implementations (needs libssl-dev). map: docs/map.svg from crates.txt.
+.PHONY: open test second lib outside fuzz bench map
+
+open:
+	tools/open
 
 test:
 	.ci/run
 
 second:
 	tests/second/compare
-
-bench:
-	bench/run
 
 lib:
 	tools/lib
@@ -20,3 +21,9 @@ outside:
 
 fuzz:
 	tests/outside/fuzz
+
+bench:
+	bench/run
+
+map:
+	tools/map
