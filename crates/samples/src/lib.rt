@@ -55,65 +55,51 @@ fn with(s: [u8; 224], at: usize, part: [u8; 16]) -> [u8; 224]
     t
 }
 
+// All of it, EncryptedVerifierHash in two blocks.
+fn info(
+    alg: u32,
+    bits: u32,
+    salt: [u8; 16],
+    verifier: [u8; 16],
+    hash: [u8; 16],
+    rest: [u8; 16],
+) -> [u8; 224] {
+    let s = with(frame(alg, bits), 156, salt);
+    with(with(with(s, 172, verifier), 192, hash), 208, rest)
+}
+
 // AES-128: the salt, and so the key, of 000 8.1.
 pub fn info_128() -> [u8; 224] {
-    let s = frame(0x660e, 128);
-    let s = with(s, 156, stepping());
-    let s = with(
-        s,
-        172,
+    info(
+        0x660e,
+        128,
+        stepping(),
         *b"\x75\x43\x48\x67\x80\x88\x47\xa6\x12\xa9\xad\xb6\x79\x53\x0a\x73",
-    );
-    let s = with(
-        s,
-        192,
         *b"\xab\x84\xec\x5b\xea\x96\xf5\xbf\x89\x36\x4b\xf7\x76\xac\xcc\x55",
-    );
-    with(
-        s,
-        208,
         *b"\x8e\x1f\xb1\x01\x63\xf5\x64\x31\x7d\xbb\xea\x6c\x36\x58\xe9\x3d",
     )
 }
 
 // AES-192: its key is the first 24 bytes of the next one's.
 pub fn info_192() -> [u8; 224] {
-    let s = frame(0x660f, 192);
-    let s = with(s, 156, rising());
-    let s = with(
-        s,
-        172,
-        *b"\xde\xe1\xa1\xd2\xc1\x4b\x61\x28\x86\x44\x42\x92\x60\x71\xb1\x62",
-    );
-    let s = with(
-        s,
+    info(
+        0x660f,
         192,
+        rising(),
+        *b"\xde\xe1\xa1\xd2\xc1\x4b\x61\x28\x86\x44\x42\x92\x60\x71\xb1\x62",
         *b"\x07\x55\x6c\x93\x55\x91\x93\x20\x54\xa9\x04\x25\x76\xd1\xa7\x94",
-    );
-    with(
-        s,
-        208,
         *b"\xa9\xb8\xe9\xa0\x6d\x50\x7b\x73\x9d\xc1\x11\xf9\xaf\x00\x07\x99",
     )
 }
 
 // AES-256: 000 8.4 itself.
 pub fn info_256() -> [u8; 224] {
-    let s = frame(0x6610, 256);
-    let s = with(s, 156, rising());
-    let s = with(
-        s,
-        172,
+    info(
+        0x6610,
+        256,
+        rising(),
         *b"\x25\x89\xae\xbb\x86\x0b\x8a\x41\xfa\x69\x0e\x76\xed\x56\xb0\xbe",
-    );
-    let s = with(
-        s,
-        192,
         *b"\xde\xdd\xb6\xb2\x9f\x9c\xd3\x82\xa0\xa2\x04\xa5\x1b\x7f\xdf\x7e",
-    );
-    with(
-        s,
-        208,
         *b"\xb1\x23\x3f\x14\xfe\x5c\x99\xd9\x6f\x5d\xe4\xdb\x08\x3d\x92\x5e",
     )
 }
