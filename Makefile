@@ -1,12 +1,12 @@
-# open: the sample sheet, opened by the proved program. test: the whole gate. second: the independent vectors alone. bench: times
+# test: the whole gate. open: the sample sheet, opened by the proved program. second: the independent vectors alone. bench: times
 # beside C and OpenSSL (needs libssl-dev).
-.PHONY: open test second bench
-
-open:
-	tools/open
+.PHONY: test open second bench
 
 test:
 	.ci/run
+
+open:
+	tools/open
 
 second:
 	tests/second/compare
