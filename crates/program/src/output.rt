@@ -39,19 +39,7 @@ fn fill(fd: i32, bytes: &[u8]) -> bool {
 
 // Writes sheet.bin and answers true; or answers false, with the reason on standard error and nothing left behind.
 pub fn write_sheet(bytes: &[u8]) -> bool {
-    let mut name = [
-        b's',
-        b'h',
-        b'e',
-        b'e',
-        b't',
-        b'.',
-        b'b',
-        b'i',
-        b'n',
-        b'.',
-        b'0',
-    ];
+    let mut name = *b"sheet.bin.0";
     let fd = make_beside(&mut name);
     if fd < 0 {
         fail();
