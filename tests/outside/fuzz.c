@@ -1,0 +1,109 @@
+/* libFuzzer on the outside interface. Each buffer is an allocation of exactly its size, so that the sanitizer sees any byte read or
+ * written beside it, and `out` is held to what the header says: untouched on a refusal, zeros after the written part.
+ *
+ * An input's first byte chooses the function, its next ones the lengths. Half of the functions take a published descriptor with its
+ * password (000, section 8), so that what lies behind the right password is reached by every stream.
+ *
+ * With -DONLY=0 every input goes to the parser, which is a thousand times faster than what derives a key. With -DREPLAY it is a
+ * program that runs the inputs named on its command line.
+ */
+#include <ropeshadow.h>
+#include <stdint.h>
+#include <stdio.h>
+#include <stdlib.h>
+#include <string.h>
+
+enum { PARSE, OPEN, OPEN_UNLOCKED, SEAL_UNLOCKED, FUNCTIONS };
+static const char *const NAMES[FUNCTIONS] = {"parse", "open", "open, right password", "seal, right password"};
+static unsigned long seen[FUNCTIONS][19];
+
+static const uint16_t PASSWORD[] = {'p', 'a', 's', 's', 'w', 'o', 'r', 'd'};
+static const uint8_t INFO[116] = {
+    3, 0, 2, 0, 0x24, 0, 0, 0, 32, 0, 0, 0,                                                   /* 3.2, flags, HeaderSize */
+    0x24, 0, 0, 0, 0, 0, 0, 0, 0x10, 0x66, 0, 0, 4, 0x80, 0, 0, 0, 1, 0, 0, 24, 0, 0, 0, 0, 0, 0, 0, 0, 0, 0, 0, /* AES-256, SHA-1 */
+    16, 0, 0, 0, 0, 1, 2, 3, 4, 5, 6, 7, 8, 9, 10, 11, 12, 13, 14, 15,                        /* the salt */
+    0x25, 0x89, 0xae, 0xbb, 0x86, 0x0b, 0x8a, 0x41, 0xfa, 0x69, 0x0e, 0x76, 0xed, 0x56, 0xb0, 0xbe, 20, 0, 0, 0,
+    0xde, 0xdd, 0xb6, 0xb2, 0x9f, 0x9c, 0xd3, 0x82, 0xa0, 0xa2, 0x04, 0xa5, 0x1b, 0x7f, 0xdf, 0x7e,
+    0xb1, 0x23, 0x3f, 0x14, 0xfe, 0x5c, 0x99, 0xd9, 0x6f, 0x5d, 0xe4, 0xdb, 0x08, 0x3d, 0x92, 0x5e};
+
+static void report(void) {
+    for (int f = 0; f < FUNCTIONS; f++) {
+        fprintf(stderr, "answers of %s:", NAMES[f]);
+        for (int a = 0; a < 19; a++)
+            if (seen[f][a] != 0) fprintf(stderr, " %d: %lu", a, seen[f][a]);
+        fputc('\n', stderr);
+    }
+}
+
+static void *copy(const void *from, size_t size) {
+    void *to = malloc(size == 0 ? 1 : size);
+    if (to == NULL) abort();
+    return size == 0 ? to : memcpy(to, from, size);
+}
+
+/* The first `most` bytes of what is left of the input, or fewer. */
+static const uint8_t *taken(const uint8_t **data, size_t *left, size_t most, size_t *size) {
+    const uint8_t *at = *data;
+    *size = most < *left ? most : *left;
+    *data += *size;
+    *left -= *size;
+    return at;
+}
+
+static void judge(int f, uint64_t word, const uint8_t *out, size_t room, size_t written) {
+    unsigned answer = ROPESHADOW_ANSWER(word);
+    if (answer > 18) abort();
+    seen[f][answer]++;
+    if (answer != ROPESHADOW_DONE && ROPESHADOW_SIZE(word) != 0) abort();
+    if (written > room) abort();
+    for (size_t i = answer == ROPESHADOW_DONE ? written : 0; i < room; i++)
+        if (out[i] != (answer == ROPESHADOW_DONE ? 0 : 0xa5)) abort();
+}
+
+int LLVMFuzzerTestOneInput(const uint8_t *data, size_t left) {
+    static int first = 1;
+    if (first) atexit(report);
+    first = 0;
+    if (left < 6) return 0;
+#ifdef ONLY
+    int f = ONLY;
+#else
+    int f = data[0] % FUNCTIONS;
+#endif
+    size_t units = data[1] + (data[0] & 0x80 ? 128u : 0u), info_size = data[2] + 256u * data[3];
+    size_t room = f == PARSE ? 84 : data[4] + 256u * data[5];
+    data += 6, left -= 6;
+
+    size_t password_size = sizeof PASSWORD, size;
+    const uint8_t *from = (const uint8_t *)PASSWORD;
+    if (f == OPEN) from = taken(&data, &left, 2 * units, &password_size);
+    uint16_t *password = copy(from, password_size / 2 * 2);
+    from = INFO, size = sizeof INFO;
+    if (f == PARSE || f == OPEN) from = taken(&data, &left, info_size, &size);
+    uint8_t *info = copy(from, size), *stream = copy(data, left), *out = malloc(room == 0 ? 1 : room);
+    if (out == NULL) abort();
+    memset(out, 0xa5, room == 0 ? 1 : room);
+
+    uint64_t word;
+    if (f == PARSE) word = ropeshadow_parse(info, size, out);
+    else if (f == SEAL_UNLOCKED) word = ropeshadow_seal(info, size, password, password_size / 2, stream, left, units, info_size, out, room);
+    else word = ropeshadow_open(info, size, password, password_size / 2, stream, left, out, room);
+    judge(f, word, out, room, f == PARSE ? 84 : ROPESHADOW_SIZE(word));
+    free(password), free(info), free(stream), free(out);
+    return 0;
+}
+
+#ifdef REPLAY
+int main(int count, char **names) {
+    static uint8_t input[1 << 20];
+    for (int i = 1; i < count; i++) {
+        FILE *file = fopen(names[i], "rb");
+        if (file == NULL) return perror(names[i]), 2;
+        size_t size = fread(input, 1, sizeof input, file);
+        fclose(file);
+        LLVMFuzzerTestOneInput(input, size);
+    }
+    printf("%d inputs\n", count - 1);
+    return 0;
+}
+#endif
