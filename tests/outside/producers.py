@@ -6,6 +6,7 @@ from importlib.metadata import version
 import olefile, openpyxl
 from msoffcrypto.method.ecma376_standard import ECMA376Standard
 
+sys.dont_write_bytecode = True
 ROOT = pathlib.Path(__file__).resolve().parents[2]
 sys.path.insert(0, str(ROOT / "examples"))
 import unlock
@@ -211,19 +212,15 @@ def large(folder, built, book):
     done = subprocess.run([built / "unlock-c", path, secret], capture_output=True)
     check("C: 64 MiB opened", done.returncode == 0 and (folder / "large.opened.xlsx").read_bytes() == package)
 
-def three_files(folder, book):
-    """info.bin, package.bin and password.bin as README makes them, and the program on them where it is built."""
+def three_files(folder, book, package):
+    """info.bin, package.bin and password.bin as README makes them, and the program on them."""
     script = f"""gsf cat '{book}' EncryptionInfo >info.bin && gsf cat '{book}' EncryptedPackage >package.bin &&
         printf %s '{PASSWORDS[1]}' | iconv -f UTF-8 -t UTF-16LE >password.bin"""
     subprocess.run(script, shell=True, check=True, cwd=folder)
     made = tuple((folder / f"{name}.bin").read_bytes() for name in ("info", "package", "password"))
     check("the three files", made == (*streams(book), PASSWORDS[1].encode("utf-16-le")))
-    program = ROOT / "target/bin/unlock"
-    if program.exists() and os.uname().machine == "x86_64":
-        said("the program unlock on the three files")
-        done = subprocess.run([program], cwd=folder, capture_output=True, text=True)
-        package = unlock.opened(*streams(book)[:1], PASSWORDS[1], streams(book)[1])[1]
-        check("unlock opens them", done.stdout == f"answer 0 size {len(package)}\n" and (folder / "sheet.bin").read_bytes() == package)
+    done = subprocess.run([ROOT / "tools/start", "unlock"], cwd=folder, capture_output=True, text=True)
+    check("the program: opened", done.stdout == f"answer 0 size {len(package)}\n" and (folder / "sheet.bin").read_bytes() == package)
 
 def main():
     random.seed(2026)
@@ -239,7 +236,7 @@ def main():
         for book, package in books:
             examples(folder, built, book, package)
             command(folder, book, PASSWORDS[1])
-            three_files(folder, book)
+            three_files(folder, book, package)
         large(folder, built, book)
     print(f"producers: {passed} passed, {failed} failed")
     sys.exit(failed != 0)
