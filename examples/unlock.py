@@ -22,7 +22,7 @@ def opened(info, password, stream):
     out = ctypes.create_string_buffer(len(stream) + 1)
     word = library().ropeshadow_open(info, len(info), units, len(units) // 2, stream, len(stream), out, len(stream))
     answer, size = word % 65536, word // 65536
-    return answer, out.raw[:size]
+    return answer, ctypes.string_at(out, size)
 
 def save(path, contents):
     """Written under another name, then renamed: there is never a half workbook."""
@@ -55,4 +55,7 @@ def main():
     print(f"{path}: {WORDS[answer]}, {len(package)} bytes")
 
 if __name__ == "__main__":
-    main()
+    try:
+        main()
+    except (OSError, ValueError) as e:
+        sys.exit(f"unlock.py: {e}")

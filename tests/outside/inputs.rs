@@ -97,10 +97,10 @@ fn put(bytes: &mut [u8], place: usize, number: u32) {
     bytes[place..place + 4].copy_from_slice(&number.to_le_bytes());
 }
 
-/// Breaks the rule of that number, 1 to 16, and no earlier one.
+/// Breaks the rule of that number and no earlier one, where HeaderSize is 140.
 fn broken(o: &mut Opening, rule: u16) {
-    let header = |o: &Opening| o.info.len() - 84;
     match rule {
+        1 => o.info.truncate(11),
         2 => o.info[2] = 4,
         3 => put(&mut o.info, 8, 31),
         4 => o.info.push(0),
@@ -108,21 +108,15 @@ fn broken(o: &mut Opening, rule: u16) {
         6 => put(&mut o.info, 20, 0x6801),
         7 => put(&mut o.info, 24, 0x8003),
         8 => put(&mut o.info, 28, 129),
-        9 => {
-            let place = 12 + header(o);
-            put(&mut o.info, place, 17)
-        }
-        10 => {
-            let place = 12 + header(o) + 36;
-            put(&mut o.info, place, 0)
-        }
+        9 => put(&mut o.info, 152, 17),
+        10 => put(&mut o.info, 188, 0),
         11 => o.password = vec![0x41; 256],
         12 => o.password[0] ^= 1,
         13 => o.stream.truncate(3),
         14 => put(&mut o.stream, 4, 1),
         15 => o.stream.push(0),
         16 => o.room -= 1,
-        _ => o.info.truncate(11),
+        _ => panic!("no rule of opening"),
     }
 }
 
