@@ -1,0 +1,98 @@
+/* Whole calls of the library, each of which derives its key, beside OpenSSL: a verdict, and opening and sealing by size. What other
+   programs then measure is left in a folder: package, and for each key size info-BITS and the blocks that package is sealed to.
+       sheets portable|instructions [FOLDER] */
+#include "contest.h"
+#include "openssl.h"
+#include <ropeshadow.h>
+#include <stdio.h>
+#include <stdlib.h>
+
+enum { LARGEST = 16 << 20, ROOM = LARGEST + 23 };
+
+static struct manner openssl;
+static unsigned char info[INFO_SIZE];
+static const unsigned char filling[16]; /* no size here leaves room for one */
+
+static uint64_t verdict_ours(const unsigned char *unused, size_t n, unsigned char *none)
+{
+    return (void)unused, (void)n, (void)none, ropeshadow_verdict(info, INFO_SIZE, password, UNITS);
+}
+
+static uint64_t verdict_openssl(const unsigned char *unused, size_t n, unsigned char *none)
+{
+    return (void)unused, (void)n, (void)none, openssl_verdict(openssl.aes, info);
+}
+
+/* opening has a room of the stream's size, sealing one that is always enough: a few bytes are zeroed */
+static uint64_t open_ours(const unsigned char *stream, size_t n, unsigned char *out)
+{
+    return ropeshadow_open(info, INFO_SIZE, password, UNITS, stream, n, out, n);
+}
+
+static uint64_t open_openssl(const unsigned char *stream, size_t n, unsigned char *out)
+{
+    return openssl_open(openssl.aes, info, stream, out, n);
+}
+
+static uint64_t seal_ours(const unsigned char *package, size_t n, unsigned char *out)
+{
+    return ropeshadow_seal(info, INFO_SIZE, password, UNITS, package, n, 0, 0, out, n + 23);
+}
+
+static uint64_t seal_openssl(const unsigned char *package, size_t n, unsigned char *out)
+{
+    return openssl_seal(openssl.aes, info, package, n, filling, out, n + 23);
+}
+
+static void call(struct contest c, work *ours, work *by_openssl)
+{
+    struct contestant each[2] = {{"ours", ours}, {openssl.name, by_openssl}};
+    c.each = each;
+    c.count = 2;
+    c.rounds = c.bytes < LARGEST ? 15 : 3;
+    c.turns = 1;
+    c.per = 1;
+    hold(&c);
+}
+
+static void save(const char *folder, const char *name, size_t bits, const unsigned char *bytes, size_t n)
+{
+    char path[256];
+    snprintf(path, sizeof path, bits ? "%s/%s-%zu" : "%s/%s", folder, name, bits);
+    FILE *file = fopen(path, "wb");
+    if (file && fwrite(bytes, 1, n, file) == n && fclose(file) == 0) return;
+    perror(path);
+    exit(2);
+}
+
+/* Every size of one key size; stream is left as the largest package's. */
+static void key_size(size_t bits, unsigned char *package, unsigned char *stream, unsigned char *out)
+{
+    lay_info(info, bits);
+    must(verdict_ours(package, 0, out) == 0, "the password");
+    call((struct contest){.call = "verdict", .bits = bits}, verdict_ours, verdict_openssl);
+    static const size_t sizes[] = {1 << 10, 64 << 10, 1 << 20, LARGEST};
+    for (int i = 0; i < 4; i++) {
+        size_t n = sizes[i];
+        struct contest c = {.call = "seal", .bits = bits, .bytes = n, .in = package, .n = n, .out = stream, .room = n + 23};
+        call(c, seal_ours, seal_openssl);
+        c = (struct contest){.call = "open", .bits = bits, .bytes = n, .in = stream, .n = n + 8, .out = out, .room = n + 8};
+        call(c, open_ours, open_openssl);
+        must(filled(out, n), "there and back");
+    }
+}
+
+int main(int argc, char **argv)
+{
+    openssl = manner_of(argc, argv);
+    begin("sheets", argv[1]);
+    unsigned char *package = reserve(LARGEST), *stream = reserve(ROOM), *out = reserve(ROOM);
+    fill(package, LARGEST);
+    if (argc > 2) save(argv[2], "package", 0, package, LARGEST);
+    for (size_t bits = 128; bits <= 256; bits += 64) {
+        key_size(bits, package, stream, out);
+        if (argc > 2) save(argv[2], "info", bits, info, INFO_SIZE);
+        if (argc > 2) save(argv[2], "blocks", bits, stream + 8, LARGEST);
+    }
+    return 0;
+}
