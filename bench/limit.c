@@ -99,7 +99,7 @@ int main(void)
         openssl_key(info, key);
         beside_bare(bits, 16 << 20, 3);
         fill(package, BUFFER);
-        beside_bare(bits, LARGEST, 1);
+        beside_bare(bits, LARGEST, 2);
         if (bits == 128) one_more(bits);
     }
     record("buffers", 0, 2 * (size_t)BUFFER, "ours", peak(), "KiB");
