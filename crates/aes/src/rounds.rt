@@ -3,12 +3,9 @@ ghost use mathlib.Core.Path.{_≡_};
 ghost use mathlib.Core.List.{[], _∷_, _++_, map};
 ghost use Prim.Native.Nat.{_<_, _≤_};
 ghost use lib.ListN.{length};
+ghost use Rattle.aes.specs.Field as Field;
 ghost use Rattle.aes.specs.Tables as Tables;
 ghost use Rattle.aes.specs.Cipher as Cipher;
-use super::field::by_9;
-use super::field::by_11;
-use super::field::by_13;
-use super::field::by_14;
 use super::field::double;
 use super::tables::look;
 
@@ -105,11 +102,11 @@ fn mix_row(a: u8, b: u8, c: u8, d: u8) -> u8
     double(a ^ b) ^ b ^ c ^ d
 }
 
-// A row of InvMixColumns.
-fn inv_mix_row(a: u8, b: u8, c: u8, d: u8) -> u8
-    ensures { λ r. ⌜ r ≡ Cipher.row 14 11 13 9 a b c d ⌝ }
+// A row of the matrix between InvMixColumns and MixColumns: 5 a + 4 c, with two doublings.
+fn halfway_row(a: u8, c: u8) -> u8
+    ensures { λ r. ⌜ r ≡ Field.xor a (Field.double (Field.double (Field.xor a c))) ⌝ }
 {
-    by_14(a) ^ by_11(b) ^ by_13(c) ^ by_9(d)
+    a ^ double(double(a ^ c))
 }
 
 fn mix_column(a: u8, b: u8, c: u8, d: u8) -> [u8; 4]
@@ -135,23 +132,28 @@ fn mix_columns(s: [u8; 16]) -> [u8; 16]
     )
 }
 
-// InvMixColumns: byte i by the matrix row that begins at it, down its column and round to the top.
+// A column of InvMixColumns: MixColumns after the matrix between the two.
+fn inv_mix_column(a: u8, b: u8, c: u8, d: u8) -> [u8; 4]
+    ensures { λ r. ⌜ r ≡ Cipher.invMixColumns (a ∷ b ∷ c ∷ d ∷ []) ⌝ }
+{
+    mix_column(
+        halfway_row(a, c),
+        halfway_row(b, d),
+        halfway_row(c, a),
+        halfway_row(d, b),
+    )
+}
+
+// InvMixColumns.
 fn inv_mix_columns(s: [u8; 16]) -> [u8; 16]
     ensures { λ r. ⌜ r ≡ Cipher.invMixColumns s ⌝ }
 {
-    let mut t = [0u8; 16];
-    let mut i = 0;
-    while i < 16 {
-        let top = i / 4 * 4;
-        t[i] = inv_mix_row(
-            s[i],
-            s[top + (i + 1) % 4],
-            s[top + (i + 2) % 4],
-            s[top + (i + 3) % 4],
-        );
-        i += 1;
-    }
-    t
+    joined(
+        inv_mix_column(s[0], s[1], s[2], s[3]),
+        inv_mix_column(s[4], s[5], s[6], s[7]),
+        inv_mix_column(s[8], s[9], s[10], s[11]),
+        inv_mix_column(s[12], s[13], s[14], s[15]),
+    )
 }
 
 // AddRoundKey with round key n.
