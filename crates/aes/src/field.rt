@@ -1,4 +1,4 @@
-// Products in the field of AES by doublings (FIPS 197 section 4): a factor's binary digits say which doubles are added.
+// Doubling in the field of AES (FIPS 197 4.2): every product that the ciphers need is a sum of doubles.
 ghost use mathlib.Core.Path.{_≡_};
 ghost use Rattle.aes.specs.Field as Field;
 

@@ -102,13 +102,6 @@ fn mix_row(a: u8, b: u8, c: u8, d: u8) -> u8
     double(a ^ b) ^ b ^ c ^ d
 }
 
-// A row of the matrix between InvMixColumns and MixColumns: 5 a + 4 c, with two doublings.
-fn halfway_row(a: u8, c: u8) -> u8
-    ensures { λ r. ⌜ r ≡ Field.xor a (Field.double (Field.double (Field.xor a c))) ⌝ }
-{
-    a ^ double(double(a ^ c))
-}
-
 fn mix_column(a: u8, b: u8, c: u8, d: u8) -> [u8; 4]
     ensures { λ r. ⌜ r ≡ Cipher.mixColumns (a ∷ b ∷ c ∷ d ∷ []) ⌝ }
 {
@@ -130,6 +123,13 @@ fn mix_columns(s: [u8; 16]) -> [u8; 16]
         mix_column(s[8], s[9], s[10], s[11]),
         mix_column(s[12], s[13], s[14], s[15]),
     )
+}
+
+// A row of the matrix between InvMixColumns and MixColumns: 5 a + 4 c, with two doublings.
+fn halfway_row(a: u8, c: u8) -> u8
+    ensures { λ r. ⌜ r ≡ Field.xor a (Field.double (Field.double (Field.xor a c))) ⌝ }
+{
+    a ^ double(double(a ^ c))
 }
 
 // A column of InvMixColumns: MixColumns after the matrix between the two.
