@@ -1,4 +1,5 @@
-/* Ropeshadow: the package of a password-locked Office document (Standard encryption of MS-OFFCRYPTO) opened and sealed.
+/* Ropeshadow: the package of a password-locked Office document (Standard encryption of MS-OFFCRYPTO) opened and sealed, and the
+ * EncryptionInfo of a new one written.
  *
  * Link target/lib/libropeshadow.a or target/lib/libropeshadow.so (`make lib`). It keeps no state, takes no memory from the heap, calls
  * nothing but memcpy and memset, and may be called from several threads at once.
@@ -28,12 +29,13 @@ enum {
     ROPESHADOW_DONE = 0,
     ROPESHADOW_INFO_SHORT = 1,          /* EncryptionInfo has fewer than 12 bytes */
     ROPESHADOW_VERSION = 2,             /* the minor version is not 2, or the major is not 2, 3 or 4: no Standard encryption */
-    ROPESHADOW_HEADER_SIZE = 3,         /* HeaderSize is below 32 or above 4,096 */
+    ROPESHADOW_HEADER_SIZE = 3,         /* HeaderSize is below 32 or above 4,096; a name to write has more than 4,064 bytes */
     ROPESHADOW_INFO_LENGTH = 4,         /* EncryptionInfo is not HeaderSize + 84 bytes long */
-    ROPESHADOW_NAME_LENGTH = 5,         /* SizeExtra exceeds HeaderSize - 32, or the name's byte count is odd */
+    ROPESHADOW_NAME_LENGTH = 5,         /* SizeExtra exceeds HeaderSize - 32, or the name's byte count, read or to write, is odd */
     ROPESHADOW_ALG_ID = 6,              /* AlgID is not AES with 128, 192 or 256 bits */
     ROPESHADOW_ALG_ID_HASH = 7,         /* AlgIDHash is not SHA-1 */
-    ROPESHADOW_KEY_SIZE = 8,            /* KeySize is not the one for AlgID; an AES key not of 16, 24 or 32 bytes */
+    ROPESHADOW_KEY_SIZE = 8,            /* KeySize is not the one for AlgID; a key size to write is not 128, 192 or 256 bits;
+                                         * an AES key not of 16, 24 or 32 bytes */
     ROPESHADOW_SALT_SIZE = 9,           /* SaltSize is not 16 */
     ROPESHADOW_VERIFIER_HASH_SIZE = 10, /* VerifierHashSize is not 20 */
     ROPESHADOW_PASSWORD_LONG = 11,      /* the password has more than 255 units */
@@ -71,6 +73,15 @@ uint64_t ropeshadow_open(const uint8_t *info, size_t info_size, const uint16_t *
 uint64_t ropeshadow_seal(const uint8_t *info, size_t info_size, const uint16_t *password, size_t units,
                          const uint8_t *package, size_t package_size, uint64_t filling_low, uint64_t filling_high,
                          uint8_t *out, size_t room);
+
+/* A new EncryptionInfo stream, version 3.2, for a key of 128, 192 or 256 bits and a password to the front of out, zeros after it to
+ * the end of out. The name is that of the provider, as bytes of UTF-16LE, and is written as given: it usually ends with a zero unit,
+ * which the caller gives. The filling that follows the verifier's hash is the first twelve of its sixteen bytes. Salt, verifier and
+ * filling should be random, new ones for each stream. The size is that of the whole stream; a room of name_size + 116 bytes is
+ * enough. Answers 0, 3, 5, 8, 11, 16. */
+uint64_t ropeshadow_write_info(uint64_t bits, const uint16_t *password, size_t units, const uint8_t *name, size_t name_size,
+                               uint64_t salt_low, uint64_t salt_high, uint64_t verifier_low, uint64_t verifier_high,
+                               uint64_t filling_low, uint64_t filling_high, uint8_t *out, size_t room);
 
 #ifdef __cplusplus
 }

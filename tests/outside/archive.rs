@@ -1,6 +1,6 @@
 //! A call of the outside interface, made through the archive and made by the second implementation. Either way the outcome is the
 //! returned number and the whole memory in which `out` lay, guard bytes before and after it included.
-use second::{aes::Aes, descriptor, key, package, sha1};
+use second::{aes::Aes, descriptor, key, package, sha1, writer};
 
 #[link(name = "ropeshadow", kind = "static")]
 #[rustfmt::skip]
@@ -14,6 +14,21 @@ extern "C" {
                        stream: *const u8, stream_size: usize, out: *mut u8, room: usize) -> u64;
     fn ropeshadow_seal(info: *const u8, info_size: usize, password: *const u16, units: usize,
                        package: *const u8, package_size: usize, low: u64, high: u64, out: *mut u8, room: usize) -> u64;
+    fn ropeshadow_write_info(bits: u64, password: *const u16, units: usize, name: *const u8, name_size: usize,
+                             salt_low: u64, salt_high: u64, verifier_low: u64, verifier_high: u64,
+                             filling_low: u64, filling_high: u64, out: *mut u8, room: usize) -> u64;
+}
+
+/// What a new EncryptionInfo is written from. Of the filling, which crosses as sixteen bytes, twelve count.
+#[derive(Clone, Debug, PartialEq)]
+pub struct Writing {
+    pub bits: u64,
+    pub password: Vec<u16>,
+    pub name: Vec<u8>,
+    pub salt: [u8; 16],
+    pub verifier: [u8; 16],
+    pub filling: [u8; 16],
+    pub room: usize,
 }
 
 #[derive(Clone, Debug, PartialEq)]
@@ -25,6 +40,7 @@ pub enum Call {
     Verdict { info: Vec<u8>, password: Vec<u16> },
     Open { info: Vec<u8>, password: Vec<u16>, stream: Vec<u8>, room: usize },
     Seal { info: Vec<u8>, password: Vec<u16>, package: Vec<u8>, filling: [u8; 16], room: usize },
+    Write(Writing),
 }
 
 #[derive(Debug, PartialEq)]
@@ -50,13 +66,17 @@ impl Call {
             Call::Encrypt { .. } | Call::Decrypt { .. } => 16,
             Call::Parse { .. } => 84,
             Call::Verdict { .. } => 0,
-            Call::Open { room, .. } | Call::Seal { room, .. } => *room,
+            Call::Open { room, .. } | Call::Seal { room, .. } | Call::Write(Writing { room, .. }) => *room,
         }
     }
 
     /// Whether a call that is answered so has derived a key.
     pub fn derives(&self, answer: u16) -> bool {
-        matches!(self, Call::Verdict { .. } | Call::Open { .. } | Call::Seal { .. }) && !(1..=11).contains(&answer)
+        match self {
+            Call::Verdict { .. } | Call::Open { .. } | Call::Seal { .. } => !(1..=11).contains(&answer),
+            Call::Write(_) => answer == 0,
+            _ => false,
+        }
     }
 
     pub fn by_archive(&self) -> Outcome {
@@ -83,13 +103,17 @@ impl Call {
                     let (low, high) = halves(filling);
                     ropeshadow_seal(i.as_ptr(), i.len(), p.as_ptr(), p.len(), s.as_ptr(), s.len(), low, high, out, *room)
                 }
+                Call::Write(Writing { bits, password: p, name: n, salt, verifier, filling, room }) => {
+                    let [s, v, f] = [salt, verifier, filling].map(halves);
+                    ropeshadow_write_info(*bits, p.as_ptr(), p.len(), n.as_ptr(), n.len(), s.0, s.1, v.0, v.1, f.0, f.1, out, *room)
+                }
             }
         };
         Outcome { word, memory }
     }
 
     pub fn by_second(&self) -> Outcome {
-        let sized = matches!(self, Call::Open { .. } | Call::Seal { .. });
+        let sized = matches!(self, Call::Open { .. } | Call::Seal { .. } | Call::Write(_));
         let written = match self {
             Call::Sha1 { message } if message.len() > 65_536 => Err(18),
             Call::Sha1 { message } => Ok(sha1::sha1(message).to_vec()),
@@ -99,6 +123,10 @@ impl Call {
             Call::Verdict { info, password } => key::unlock(info, password).map(|_| vec![]),
             Call::Open { info, password, stream, room } => package::open(info, password, stream, *room),
             Call::Seal { info, password, package, filling, room } => package::seal(info, password, package, *filling, *room),
+            Call::Write(w) => {
+                let filling = *w.filling.first_chunk().unwrap();
+                writer::write_info(w.bits, &w.password, &w.name, w.salt, w.verifier, filling, w.room)
+            }
         };
         let mut memory = vec![OLD; GUARD + self.room() + GUARD];
         let word = match written {

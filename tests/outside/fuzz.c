@@ -1,8 +1,9 @@
 /* libFuzzer on the outside interface. Each buffer is an allocation of exactly its size, so that the sanitizer sees any byte read or
  * written beside it, and `out` is held to what the header says: untouched on a refusal, zeros after the written part.
  *
- * An input's first byte chooses the function, its next ones the lengths. Half of the functions take a published descriptor with its
- * password (000, section 8), so that what lies behind the right password is reached by every stream.
+ * An input's first byte chooses the function, its next ones the lengths. Two of the functions take a published descriptor with its
+ * password (000, section 8), so that what lies behind the right password is reached by every stream. The writer's name stands where
+ * others have EncryptionInfo, and its seven numbers at the end.
  *
  * With -DONLY=0 every input goes to the parser, which is a thousand times faster than what derives a key. With -DREPLAY it is a
  * program that runs the inputs named on its command line.
@@ -13,8 +14,8 @@
 #include <stdlib.h>
 #include <string.h>
 
-enum { PARSE, OPEN, OPEN_UNLOCKED, SEAL_UNLOCKED, FUNCTIONS };
-static const char *const NAMES[FUNCTIONS] = {"parse", "open", "open, right password", "seal, right password"};
+enum { PARSE, OPEN, OPEN_UNLOCKED, SEAL_UNLOCKED, WRITE, FUNCTIONS };
+static const char *const NAMES[FUNCTIONS] = {"parse", "open", "open, right password", "seal, right password", "write"};
 static unsigned long seen[FUNCTIONS][19];
 
 static const uint16_t PASSWORD[] = {'p', 'a', 's', 's', 'w', 'o', 'r', 'd'};
@@ -60,6 +61,30 @@ static void judge(int f, uint64_t word, const uint8_t *out, size_t room, size_t 
         if (out[i] != (answer == ROPESHADOW_DONE ? 0 : 0xa5)) abort();
 }
 
+/* Writes EncryptionInfo with the numbers of what is left of the input, zeros where it ends early. */
+static uint64_t written(const uint16_t *password, size_t units, const uint8_t *name, size_t name_size, const uint8_t *data, size_t left,
+                        uint8_t *out, size_t room) {
+    uint64_t n[7] = {0};
+    uint8_t fields[84];
+    memcpy(n, data, left < sizeof n ? left : sizeof n);
+    uint64_t word = ropeshadow_write_info(n[0], password, units, name, name_size, n[1], n[2], n[3], n[4], n[5], n[6], out, room);
+    switch (ROPESHADOW_ANSWER(word)) {
+    case ROPESHADOW_DONE:
+        if (ROPESHADOW_SIZE(word) != name_size + 116 || ropeshadow_parse(out, name_size + 116, fields) != ROPESHADOW_DONE) abort();
+        return word;
+    case ROPESHADOW_ROOM:
+        if (room >= name_size + 116) abort();
+        return word;
+    case ROPESHADOW_HEADER_SIZE:
+    case ROPESHADOW_NAME_LENGTH:
+    case ROPESHADOW_KEY_SIZE:
+    case ROPESHADOW_PASSWORD_LONG:
+        return word;
+    default:
+        abort();
+    }
+}
+
 int LLVMFuzzerTestOneInput(const uint8_t *data, size_t left) {
     static int first = 1;
     if (first) atexit(report);
@@ -68,7 +93,7 @@ int LLVMFuzzerTestOneInput(const uint8_t *data, size_t left) {
 #ifdef ONLY
     int f = ONLY;
 #else
-    int f = data[0] % FUNCTIONS;
+    int f = (data[0] & 0x7f) % FUNCTIONS;
 #endif
     size_t units = data[1] + (data[0] & 0x80 ? 128u : 0u), info_size = data[2] + 256u * data[3];
     size_t room = f == PARSE ? 84 : data[4] + 256u * data[5];
@@ -76,10 +101,10 @@ int LLVMFuzzerTestOneInput(const uint8_t *data, size_t left) {
 
     size_t password_size = sizeof PASSWORD, size;
     const uint8_t *from = (const uint8_t *)PASSWORD;
-    if (f == OPEN) from = taken(&data, &left, 2 * units, &password_size);
+    if (f == OPEN || f == WRITE) from = taken(&data, &left, 2 * units, &password_size);
     uint16_t *password = copy(from, password_size / 2 * 2);
     from = INFO, size = sizeof INFO;
-    if (f == PARSE || f == OPEN) from = taken(&data, &left, info_size, &size);
+    if (f == PARSE || f == OPEN || f == WRITE) from = taken(&data, &left, info_size, &size);
     uint8_t *info = copy(from, size), *stream = copy(data, left), *out = malloc(room == 0 ? 1 : room);
     if (out == NULL) abort();
     memset(out, 0xa5, room == 0 ? 1 : room);
@@ -87,6 +112,7 @@ int LLVMFuzzerTestOneInput(const uint8_t *data, size_t left) {
     uint64_t word;
     if (f == PARSE) word = ropeshadow_parse(info, size, out);
     else if (f == SEAL_UNLOCKED) word = ropeshadow_seal(info, size, password, password_size / 2, stream, left, units, info_size, out, room);
+    else if (f == WRITE) word = written(password, password_size / 2, info, size, stream, left, out, room);
     else word = ropeshadow_open(info, size, password, password_size / 2, stream, left, out, room);
     judge(f, word, out, room, f == PARSE ? 84 : ROPESHADOW_SIZE(word));
     free(password), free(info), free(stream), free(out);

@@ -72,7 +72,7 @@ pub struct Case {
 
 pub struct Cases {
     pub list: Vec<Case>,
-    r: Random,
+    pub r: Random,
     locks: Vec<Lock>,
 }
 
@@ -136,10 +136,11 @@ impl Cases {
         cases.packages();
         cases.streams();
         cases.random();
+        cases.writes();
         cases
     }
 
-    fn add(&mut self, group: &'static str, call: Call) {
+    pub fn add(&mut self, group: &'static str, call: Call) {
         self.list.push(Case { group, call, answer: None });
     }
 

@@ -3,6 +3,7 @@
 //!     calls [SEED [CALL]]     all calls, or one of them with its inputs shown
 mod archive;
 mod inputs;
+mod writes;
 
 use archive::{Call, GUARD};
 use inputs::{Case, Cases, Random, lock};
@@ -90,11 +91,13 @@ fn main() {
             }
         }
     }
-    match largest(seed) {
-        Ok(calls) => passed += calls,
-        Err(what) => {
-            failed += 1;
-            println!("FAILED seed {seed}: {what}");
+    for followed in [largest(seed), writes::taken_up(seed)] {
+        match followed {
+            Ok(calls) => passed += calls,
+            Err(what) => {
+                failed += 1;
+                println!("FAILED seed {seed}: {what}");
+            }
         }
     }
     for (group, count) in groups {

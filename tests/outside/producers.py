@@ -1,7 +1,8 @@
 """Real producers: what Apache POI and LibreOffice lock is opened byte for byte, by the library and by the examples, and what the
-library seals under their descriptors is opened by msoffcrypto-tool, Apache POI and LibreOffice.
+library seals, under their descriptors and under those that it writes itself, is opened by msoffcrypto-tool, Apache POI and LibreOffice.
     producers.py EXAMPLES    the folder with the compiled examples unlock-c and unlock-rs; the shared library is target/lib's"""
 import ctypes, io, os, pathlib, pty, random, select, subprocess, sys, tempfile
+from collections import Counter
 from importlib.metadata import version
 import olefile, openpyxl
 from msoffcrypto.method.ecma376_standard import ECMA376Standard
@@ -13,6 +14,10 @@ import unlock
 
 JARS = ":".join(f"/usr/share/java/{jar}.jar" for jar in ("poi", "commons-codec", "commons-collections4", "commons-math3"))
 PASSWORDS = ["Secret-42", "pässwörd 測試 \U0001f511", "x", "y" * 255, ""]
+PROVIDER = "Microsoft Enhanced RSA and AES Cryptographic Provider\0"
+NAMES = {"no name": "", "a name that is a zero unit": "\0", "a name of 4,064 bytes": "n" * 2031 + "\0",
+         "a name without a zero unit": PROVIDER[:-1], "a name with a zero unit within": "one\0two\0"}
+BITS = (128, 192, 256)
 SIZES = [0, 1, 15, 16, 17, 31, 32, 33, 4095, 4096, 4097, 65535, 65536, 65537]
 passed = failed = 0
 
@@ -27,9 +32,9 @@ def said(what):
 
 class Worker:
     """A program that answers each line with a line; its first line is its version."""
-    def __init__(self, *command):
+    def __init__(self, name, *command):
         self.program = subprocess.Popen(command, stdin=subprocess.PIPE, stdout=subprocess.PIPE, stderr=subprocess.DEVNULL, encoding="utf-8")
-        self.version = self.program.stdout.readline().strip()
+        said(f"{name} {self.program.stdout.readline().strip()}")
 
     def ask(self, *words):
         self.program.stdin.write("\t".join(map(str, words)) + "\n")
@@ -62,6 +67,22 @@ def sealed(info, password, package):
     check("sealed with answer 0", word % 65536 == 0)
     return out.raw[:word // 65536]
 
+def written(bits, password, name):
+    """A new EncryptionInfo by the library, its salt, verifier and filling random."""
+    units, name = password.encode("utf-16-le"), name.encode("utf-16-le")
+    write = unlock.library().ropeshadow_write_info
+    write.argtypes = [ctypes.c_uint64] + [ctypes.c_char_p, ctypes.c_size_t] * 2 + [ctypes.c_uint64] * 6 + [ctypes.c_void_p, ctypes.c_size_t]
+    write.restype = ctypes.c_uint64
+    room = len(name) + 116
+    out = ctypes.create_string_buffer(room)
+    word = write(bits, units, len(units) // 2, name, len(name), *(random.getrandbits(64) for _ in range(6)), out, room)
+    check("written with answer 0", word == 65536 * room)
+    return out.raw
+
+def fixed(info):
+    """What is the same in two descriptors with the usual name and one key size, but for the major version."""
+    return len(info), info[2:156], info[188:192]
+
 def by_msoffcrypto(info, password, stream):
     """The package by msoffcrypto-tool's own functions, which take any bytes for a package."""
     bits, end = int.from_bytes(info[28:32], "little"), 12 + int.from_bytes(info[8:12], "little")
@@ -84,18 +105,17 @@ def uneven(path):
             return path.read_bytes()
         rows += 1
 
-def poi(folder):
+def poi(folder, worker):
     """What Apache POI locks, of each size and key size and with each password; returns a workbook that it locked."""
-    worker = Worker("java", "-cp", f"{ROOT}/target/outside:{JARS}", "Poi")
-    said(f"Apache POI {worker.version}")
     plain, locked, opened = folder / "plain", folder / "poi.xlsx", folder / "opened"
-    jobs = [(bits, PASSWORDS[0], n) for bits in (128, 192, 256) for n in SIZES] + [(256, p, 1001) for p in PASSWORDS]
+    jobs = [(bits, PASSWORDS[0], n) for bits in BITS for n in SIZES] + [(256, p, 1001) for p in PASSWORDS]
     for bits, password, n in jobs:
         what = f"POI, {bits} bits, {n} bytes, {len(password)} characters"
         package = random.randbytes(n)
         plain.write_bytes(package)
         check(f"{what}: locked", worker.ask("lock", bits, password, plain, locked) == "done")
         info, stream = streams(locked)
+        check(f"{what}: as the library writes it", fixed(info) == fixed(written(bits, password, PROVIDER)))
         # at a multiple of 16 POI adds a whole block of filling, and 01 answers 15; without that block the stream is one of 01's
         whole = n % 16 == 0
         check(f"{what}: opened", unlock.opened(info, password, stream) == ((15, b"") if whole else (0, package)))
@@ -111,19 +131,18 @@ def poi(folder):
     book = folder / "by-poi.xlsx"
     package = uneven(plain)
     check("POI: a workbook locked", worker.ask("lock", 128, PASSWORDS[1], plain, book) == "done")
-    worker.close()
     return book, package
 
-def libre(folder):
+def libre(folder, worker):
     """What LibreOffice locks, at sizes that are a multiple of 16 and others; returns a workbook that it locked."""
-    worker = Worker("/usr/bin/python3", str(ROOT / "tests/outside/libre.py"))
-    said(f"LibreOffice {worker.version}")
     plain, locked = folder / "plain.xlsx", folder / "libre.xlsx"
     password, remainders = PASSWORDS[1], set()
     for rows in range(200, 280):
         workbook(plain, rows)
         check("LibreOffice: locked", worker.ask("lock", password, plain, locked) == "done")
         info, stream = streams(locked)
+        ours = written(128, password, PROVIDER)
+        check(f"LibreOffice, {rows} rows: as the library writes it", info[:2] == ours[:2] and fixed(info) == fixed(ours))
         answer, package = unlock.opened(info, password, stream)
         check(f"LibreOffice, {rows} rows: as msoffcrypto-tool opens it", answer == 0 and package == by_msoffcrypto(info, password, stream))
         check(f"LibreOffice, {rows} rows: a whole workbook", openpyxl.load_workbook(io.BytesIO(package)).active.cell(rows, 1).value == f"seat {rows - 1}")
@@ -137,8 +156,68 @@ def libre(folder):
     check("sealed, opened by LibreOffice", worker.ask("read", password, book) == "seat 0")
     check("LibreOffice: locked", worker.ask("lock", password, plain, book) == "done")
     package = unlock.opened(streams(book)[0], password, streams(book)[1])[1]
-    worker.close()
     return book, package
+
+def anew(folder, java):
+    """Packages locked from nothing, of each size and key size and with each password."""
+    locked, opened = folder / "anew", folder / "opened"
+    for bits, password, n in [(b, PASSWORDS[0], n) for b in BITS for n in SIZES] + [(b, p, 1001) for b in BITS for p in PASSWORDS]:
+        what = f"locked from nothing, {bits} bits, {n} bytes, {len(password)} characters"
+        package, info, other = random.randbytes(n), written(bits, password, PROVIDER), password + "?"
+        stream = sealed(info, password, package)
+        check(f"{what}: opened", unlock.opened(info, password, stream) == (0, package))
+        check(f"{what}: another password", unlock.opened(info, other, stream)[0] == (11 if len(password) == 255 else 12))
+        check(f"{what}: opened by msoffcrypto-tool", by_msoffcrypto(info, password, stream) == package)
+        check(f"{what}: another password, msoffcrypto-tool", by_msoffcrypto(info, other, stream) is None)
+        compound(locked, info, stream)
+        check(f"{what}: opened by POI", java.ask("open", password, locked, opened) == "done" and opened.read_bytes() == package)
+        check(f"{what}: another password, POI", "wrong password" in java.ask("open", other, locked, opened))
+
+def openers(folder, java, office, book, password, package):
+    """Who opens a workbook: byte for byte, LibreOffice by the text of its first cell."""
+    opened = folder / "opened"
+    def whole(done):
+        same = done and opened.read_bytes() == package
+        opened.unlink(missing_ok=True)
+        return same
+    command = subprocess.run(["msoffcrypto-tool", "-p", password, book, opened], stdin=subprocess.DEVNULL, capture_output=True)
+    by = {"msoffcrypto-tool": whole(command.returncode == 0), "Apache POI": whole(java.ask("open", password, book, opened) == "done"),
+          "LibreOffice": office is not None and office.ask("read", password, book) == "seat 0"}
+    return {name for name in by if by[name]}
+
+def asked(office, bits, password, name):
+    """Who must open a workbook so locked. Neither the command msoffcrypto-tool nor LibreOffice takes an empty password, LibreOffice
+    takes keys of 128 bits alone, and Apache POI lets a name end at its first zero unit."""
+    who = {"msoffcrypto-tool"} if password else set()
+    if office and password and bits == 128:
+        who.add("LibreOffice")
+    if name.find("\0") == len(name) - 1:
+        who.add("Apache POI")
+    return who
+
+def anew_workbooks(folder, java, office):
+    """A workbook locked from nothing, with each key size and password and with other names; who opens it is said."""
+    plain, book, theirs = (folder / name for name in ("plain.xlsx", "anew.xlsx", "poi.xlsx"))
+    package = uneven(plain)
+    groups = [(f"{bits} bits", PROVIDER, bits, PASSWORDS) for bits in BITS] + [(what, NAMES[what], 128, PASSWORDS[:1]) for what in NAMES]
+    for what, name, bits, passwords in groups:
+        seen = Counter()
+        for password in passwords:
+            info = written(bits, password, name)
+            stream = sealed(info, password, package)
+            compound(book, info, stream)
+            case = f"workbook locked from nothing, {what}, {len(password)} characters"
+            check(f"{case}: opened", unlock.opened(info, password, stream) == (0, package))
+            who = openers(folder, java, office, book, password, package)
+            for one in asked(office, bits, password, name):
+                check(f"{case}: opened by {one}", one in who)
+            check(f"{case}: another password", not openers(folder, java, office, book, password + "?", package))
+            seen.update(who)
+            if office and name == PROVIDER:
+                check(f"{case}: locked by POI", java.ask("lock", bits, password, plain, theirs) == "done")
+                same = (office.ask("read", password, theirs) == "seat 0") == ("LibreOffice" in who)
+                check(f"{case}: opened by LibreOffice just where POI's own is", same)
+        said(f"  locked from nothing, {what}, {len(passwords)} tried: " + ", ".join(f"{who} opens {n}" for who, n in sorted(seen.items())))
 
 def command(folder, book, password):
     """msoffcrypto-tool's own command on a workbook that the library sealed under the descriptor of another."""
@@ -228,11 +307,17 @@ def main():
     said(", ".join(f"{name} {version(name)}" for name in ("msoffcrypto-tool", "olefile", "openpyxl")))
     with tempfile.TemporaryDirectory() as name:
         folder = pathlib.Path(name)
-        books = [poi(folder)]
+        java, office = Worker("Apache POI", "java", "-cp", f"{ROOT}/target/outside:{JARS}", "Poi"), None
+        books = [poi(folder, java)]
         if subprocess.run(["/usr/bin/python3", "-c", "import uno"], capture_output=True).returncode == 0:
-            books.append(libre(folder))
+            office = Worker("LibreOffice", "/usr/bin/python3", str(ROOT / "tests/outside/libre.py"))
+            books.append(libre(folder, office))
         else:
             said("LibreOffice: skipped, it is not installed")
+        anew(folder, java)
+        anew_workbooks(folder, java, office)
+        for worker in filter(None, (java, office)):
+            worker.close()
         for book, package in books:
             examples(folder, built, book, package)
             command(folder, book, PASSWORDS[1])

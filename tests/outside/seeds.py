@@ -10,8 +10,11 @@ def named(size, extra):
     return INFO[:8] + struct.pack("<I", 32 + size) + INFO[12:16] + struct.pack("<I", extra) + INFO[20:44] + bytes(size) + INFO[44:]
 
 def given(function, password, info, room, stream):
-    units = password.encode("utf-16-le")
-    return bytes([function, len(units) // 2]) + struct.pack("<HH", len(info), room) + units + info + stream
+    units, more = password.encode("utf-16-le"), len(password) > 255
+    return bytes([function + 128 * more, len(units) // 2 - 128 * more]) + struct.pack("<HH", len(info), room) + units + info + stream
+
+def writing(bits, name, room, password="password"):
+    return given(4, password, bytes(name), room, struct.pack("<7Q", bits, *range(6)))
 
 def main():
     folder = pathlib.Path(sys.argv[1])
@@ -22,6 +25,9 @@ def main():
         seeds += [given(1, "password", INFO, size, stream), given(1, "password", named(108, 2), size + 9, stream)]
         seeds += [given(2, "", b"", size, stream), given(2, "", b"", size + 30, stream), given(3, "", b"", size + 23, bytes(size))]
     seeds += [given(1, "wrong", INFO, 16, bytes(8)), given(1, "x" * 255, INFO, 16, bytes(8)), given(2, "", b"", 64, bytes(3))]
+    seeds += [writing(bits, 108, 224) for bits in (128, 192, 256, 127, 1 << 32 | 128)]
+    seeds += [writing(128, name, name + 120) for name in (0, 107, 4064, 4065, 4066)]
+    seeds += [writing(256, 2, 117), writing(256, 2, 118, "x" * 255), writing(256, 2, 117, "x" * 256), writing(256, 0, 116, "")]
     for n, seed in enumerate(seeds):
         (folder / f"seed-{n:02}").write_bytes(seed)
 

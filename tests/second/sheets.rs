@@ -1,9 +1,10 @@
-//! The lines of opening and sealing that crates/cases prints, by the second implementation. A buffer is full of a5 before each call.
+//! The lines of opening, sealing and writing that crates/cases prints, by the second implementation. A buffer is full of a5 before each
+//! call.
 use second::{
-    aes::Aes,
-    key::derive,
+    key::unlock,
     package::{open, seal},
     sha1::sha1,
+    writer::write_info,
 };
 
 type Result = std::result::Result<Vec<u8>, u16>;
@@ -28,20 +29,29 @@ fn line(name: &str, result: &Result, room: usize) {
     println!("{name}: answer {answer} size {size} {shown}");
 }
 
-/// EncryptionInfo for the password "password" and the verifier of 000 8.4, with the usual provider name.
-fn info(bits: u32, salt: [u8; 16]) -> Vec<u8> {
-    let name: Vec<u8> = "Microsoft Enhanced RSA and AES Cryptographic Provider\0".encode_utf16().flat_map(u16::to_le_bytes).collect();
-    let aes = Aes::new(&derive(&salt, &units("password")).key[..bits as usize / 8]).unwrap();
-    let verifier: [u8; 16] = std::array::from_fn(|i| 0x11 * i as u8);
-    let hash = [&sha1(&verifier)[..], &[0; 12]].concat();
-    let mut out = vec![3, 0, 2, 0];
-    for number in [0x24, 32 + name.len() as u32, 0x24, 0, 0x660e + (bits - 128) / 64, 0x8004, bits, 24, 0, 0] {
-        out.extend(number.to_le_bytes());
-    }
-    out.extend(name);
-    out.extend([&[16, 0, 0, 0], &salt[..], &aes.encrypt(verifier), &[20, 0, 0, 0]].concat());
-    out.extend(hash.chunks(16).flat_map(|c| aes.encrypt(c.try_into().unwrap())));
-    out
+/// 00 to 0f.
+fn rising() -> [u8; 16] {
+    std::array::from_fn(|i| i as u8)
+}
+
+/// 00 to ff by steps of 11: the salt of 000 8.1, the verifier of 000 8.4.
+fn stepping() -> [u8; 16] {
+    std::array::from_fn(|i| 0x11 * i as u8)
+}
+
+/// Byte i is i modulo 251.
+fn pattern(n: u32) -> Vec<u8> {
+    (0..n).map(|i| (i % 251) as u8).collect()
+}
+
+/// The bytes of the usual provider name and its zero unit.
+fn provider() -> Vec<u8> {
+    "Microsoft Enhanced RSA and AES Cryptographic Provider\0".encode_utf16().flat_map(u16::to_le_bytes).collect()
+}
+
+/// EncryptionInfo for the password "password", with the usual provider name.
+fn info(bits: u64, salt: [u8; 16]) -> Vec<u8> {
+    write_info(bits, &units("password"), &provider(), salt, stepping(), [0; 12], 224).unwrap()
 }
 
 /// Sealed with filling f0 to ff.
@@ -56,9 +66,9 @@ fn opened(name: &str, info: &[u8], password: &[u16], stream: &[u8], room: usize)
     line(&format!("open {name}"), &open(info, password, stream, room), room);
 }
 
-fn round_trips(bits: u32, salt: [u8; 16]) {
+fn round_trips(bits: u64, salt: [u8; 16]) {
     println!("AES-{bits}");
-    let (info, long) = (info(bits, salt), (0..4_096u32).map(|i| (i % 251) as u8).collect::<Vec<u8>>());
+    let info = info(bits, salt);
     let letters = b"abcdefghijklmnopq";
     let short = [(0, "0 bytes"), (1, "1 byte"), (15, "15 bytes"), (16, "16 bytes"), (17, "17 bytes")];
     let trip = |name: &str, package: &[u8], room: usize| {
@@ -66,7 +76,7 @@ fn round_trips(bits: u32, salt: [u8; 16]) {
         opened(name, &info, &units("password"), &stream, room);
     };
     short.iter().for_each(|(n, name)| trip(name, &letters[..*n], 48));
-    trip("4,096 bytes", &long, 4_200);
+    trip("4,096 bytes", &pattern(4_096), 4_200);
 }
 
 fn refusals(info: &[u8]) {
@@ -103,11 +113,62 @@ fn published(info: &[u8]) {
     opened("000 8.1", info, &units("password"), &stream, 48);
 }
 
+/// Written with salt 00 to 0f and filling f0 to fb.
+fn written(what: &str, bits: u64, password: &[u16], name: &[u8], room: usize) -> Result {
+    let filling = std::array::from_fn(|i| 0xf0 + i as u8);
+    let result = write_info(bits, password, name, rising(), stepping(), filling, room);
+    line(&format!("write {what}"), &result, room);
+    result
+}
+
+fn verdict(what: &str, info: &[u8], password: &[u16]) {
+    println!("verdict {what}: answer {}", unlock(info, password).err().unwrap_or(0));
+}
+
+/// Written for the password "password", and the verdicts on what was written.
+fn judged(what: &str, bits: u64, name: &[u8], room: usize) {
+    let right = units("password");
+    let info = written(what, bits, &right, name, room).unwrap();
+    verdict("right", &info, &right);
+    verdict("wrong", &info, &[]);
+}
+
+fn written_infos() {
+    judged("AES-128", 128, &provider(), 240);
+    judged("AES-192", 192, &provider(), 240);
+    judged("AES-256", 256, &provider(), 240);
+    judged("no name", 128, &[], 116);
+    judged("a name of 4,064 bytes", 256, &pattern(4_064), 4_200);
+}
+
+/// 3, 5, 8, 11 and 16; then those before 16 in a room of 16 bytes, so that a later rule is broken too.
+fn unwritten() {
+    let (right, long, usual) = (units("password"), [0x61; 256], provider());
+    for (what, bits, password, name, room) in [
+        ("a name of 4,065 bytes", 128, &right[..], &pattern(4_065)[..], 4_200),
+        ("a name of 4,066 bytes", 128, &right, &pattern(4_066), 4_200),
+        ("a name of 107 bytes", 128, &right, &usual[..107], 240),
+        ("127 bits", 127, &right, &usual, 240),
+        ("0 bits", 0, &right, &usual, 240),
+        ("512 bits", 512, &right, &usual, 240),
+        ("256 units", 128, &long, &usual, 240),
+        ("room one byte short", 128, &right, &usual, 223),
+        ("a name of 4,065 bytes, room of 16", 128, &right, &pattern(4_065), 16),
+        ("a name of 4,066 bytes, 127 bits, room of 16", 127, &right, &pattern(4_066), 16),
+        ("a name of 107 bytes, 127 bits, room of 16", 127, &right, &usual[..107], 16),
+        ("127 bits, 256 units, room of 16", 127, &long, &usual, 16),
+        ("256 units, room of 16", 128, &long, &usual, 16),
+    ] {
+        let _ = written(what, bits, password, name, room);
+    }
+}
+
 fn main() {
-    let (stepping, rising) = (std::array::from_fn(|i| 0x11 * i as u8), std::array::from_fn(|i| i as u8));
-    round_trips(128, stepping);
-    round_trips(192, rising);
-    round_trips(256, rising);
-    refusals(&info(128, stepping));
-    published(&info(128, stepping));
+    round_trips(128, stepping());
+    round_trips(192, rising());
+    round_trips(256, rising());
+    refusals(&info(128, stepping()));
+    published(&info(128, stepping()));
+    written_infos();
+    unwritten();
 }

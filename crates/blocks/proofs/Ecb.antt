@@ -1,5 +1,5 @@
 -- Block i of the result is the operation on block i, in both directions the same law; and blocks make up a stream. Assumes nothing.
-use mathlib.Core.Path.{_≡_, refl, sym, ap₂, _∙_}
+use mathlib.Core.Path.{_≡_, refl, sym, ap, ap₂, _∙_}
 use mathlib.Core.List.{List, _++_}
 use mathlib.Core.Logic.{inl, inr}
 use Prim.Native.Nat.{ℕ, zero, suc, _+_, _*_, _/_, _≤_, _<_}
@@ -75,6 +75,15 @@ module _ (f : List ℕ → List ℕ) where
   unfolding blocks
   blocks-bytes zero s h = nil-bytes
   blocks-bytes (suc n) s h = append-below (blocks f n s) (f (block n s)) (blocks-bytes n s (λ i l. h i (omega (arith, l)))) (h n (omega arith))
+
+  -- one block, and two
+  pub ecb-one : (s : List ℕ) → length s ≡ 16 → ecb f s ≡ f s
+  unfolding ecb blocks block
+  ecb-one s h = rw h (ap f (take-all 16 s (omega arith)))
+
+  pub ecb-two : (s : List ℕ) → length s ≡ 32 → ecb f s ≡ f (take 16 s) ++ f (drop 16 s)
+  unfolding ecb blocks block
+  ecb-two s h = rw h (ap (λ (t : List ℕ). f (take 16 s) ++ f t) (take-all 16 (drop 16 s) (simp length-drop (omega arith))))
 
   module _ (s : List ℕ) (h : Blockwise f (length s / 16) s) where
     pub length-ecb : length (ecb f s) ≡ 16 * (length s / 16)

@@ -25,6 +25,10 @@ pub whole-long : {s : List ℕ} → Fit whole s → length s ≡ 16 * (length s 
 unfolding whole
 whole-long {s} w = omega (arith, eqb-true (length s % 16) 0 (w .long))
 
+pub whole-fit : {s : List ℕ} → length s % 16 ≡ 0 → Bytes s → Fit whole s
+unfolding whole
+whole-fit h b = record { long = eq-eqb _ _ h; bytes = b }
+
 -- a block of a stream of whole blocks
 pub block-fit : {s : List ℕ} → Fit whole s → (i : ℕ) → i < length s / 16 → Fit single (block i s)
 unfolding block

@@ -15,6 +15,8 @@ use Rattle.descriptor.proofs.Laws.{Admitted, alg-known, sound}
 use Rattle.sheet.specs.Sheet as Sheet
 use Rattle.sheet.specs.declared.Reply.{Reply}
 use Rattle.sheet.proofs.Laws.{open-answer, open-zero, seal-answer, seal-zero}
+use Rattle.writer.specs.Written as Written
+use Rattle.writer.proofs.Laws.{writable}
 use Rattle.capi.specs.Capi.{Fits}
 
 -- ---- one of a list is at most their sum
@@ -61,6 +63,15 @@ module _ (info password : List ℕ) where
     pub seal-held : (pack given : List ℕ) → Sheet.left r out ≡ Sheet.sealed info password pack given old → r .size < 2 ^ 48
     unfolding Sheet.sealedSize Sheet.rounded Sheet.least Sheet.limit
     seal-held pack given e = omega (arith, ap (λ (l : Sheet.Left). l .reply .size) e, seal-size pack given old)
+
+-- a new EncryptionInfo is as long as the longest that is admitted, at most
+pub write-held : (bits : ℕ) (password name salt verifier filling : List ℕ) (r : Reply) (old out : List ℕ)
+    → Sheet.left r out ≡ Written.written bits password name salt verifier filling old → r .size < 2 ^ 48
+unfolding Written.written Written.infoSize
+write-held bits password name salt verifier filling r old out e =
+    let n = ended-size _ (Written.infoSize (length name)) (Written.infoOf bits password name salt verifier filling) old 4180
+    (λ h. omega (arith, writable bits (length password) (length name) (length old) .0 h .short)) in
+    omega (arith, ap (λ (l : Sheet.Left). l .reply .size) e, n)
 
 -- ---- the fields of a descriptor
 

@@ -6,6 +6,7 @@ use Prim.Native.Nat.{ℕ, zero, suc}
 use native.Mathlib.Omega.{arith}
 use Rattle.sheet.specs.declared.Reply.{Reply}
 use Rattle.sheet.specs.Sheet as Sheet
+use Rattle.writer.specs.Written as Written
 use Rattle.capi.specs.Capi.{word, sixteen, Left, left, ended, sheet, opened, sealed}
 
 -- the two arms of a function that writes a value on answer 0 only
@@ -17,7 +18,7 @@ answered zero w value old out e (inr k) = absurd (k .0 refl)
 answered (suc n) w value old out e (inl k) = absurd (omega (arith, k .0))
 answered (suc n) w value old out e (inr k) = rw (e, k .1)
 
--- opening and sealing write by themselves on answer 0 only, so their reply crosses as it is
+-- opening, sealing and writing write by themselves on answer 0 only, so their reply crosses as it is
 abbrev crossed : Sheet.Left → Left
 crossed l = left (word (l .reply .answer) (l .reply .size)) (l .out)
 
@@ -25,6 +26,12 @@ sheet-ended : (answer size : ℕ) (content out : List ℕ) → let l = Sheet.end
 unfolding sheet ended Sheet.ended
 sheet-ended zero size content out = refl
 sheet-ended (suc n) size content out = refl
+
+-- a new EncryptionInfo likewise
+pub write-crossed : (bits : ℕ) (password name salt verifier filling : List ℕ) (w : ℕ) (r : Reply) (old out : List ℕ)
+    → w ≡ word (r .answer) (r .size) → let l = Written.written bits password name salt verifier filling old in Sheet.left r out ≡ l → left w out ≡ sheet l old
+unfolding Written.written
+write-crossed bits password name salt verifier filling w r old out e l = ap (λ (n : ℕ). left n out) e ∙ ap crossed l ∙ sheet-ended _ _ _ old
 
 module _ (info password : List ℕ) (w : ℕ) (r : Reply) (old out : List ℕ) (e : w ≡ word (r .answer) (r .size)) where
   pub open-crossed : (stream : List ℕ) → Sheet.left r out ≡ Sheet.opened info password stream old

@@ -3,8 +3,9 @@
 use mathlib.Core.Path.{_≡_, refl, sym, ap, subst, _∙_}
 use mathlib.Core.Bool.{Bool, true, false, cond}
 use mathlib.Core.List.{List, _∷_, _++_, append-assoc}
-use Prim.Native.Nat.{ℕ, zero, suc, _/_, _%_, _<_}
+use Prim.Native.Nat.{ℕ, zero, suc, _/_, _%_, _^_, _<_}
 use native.Mathlib.Omega.{arith}
+use borrow.Author.Tests.{le-ltb}
 use lib.ListN.{length, take, drop, take-append-drop, length-append, length-drop}
 use lib.Seq.{take-at, drop-at, take-all}
 use Rattle.octets.specs.Octets.{Bytes, leBytes, leAt}
@@ -19,9 +20,11 @@ use Rattle.descriptor.proofs.Laws.{Admitted, parsed-answer, parsed-fields}
 use Rattle.password.specs.Verdict as Verdict
 use Rattle.sheet.specs.Sheet as Sheet
 use Rattle.sheet.proofs.Laws.{open-answer, seal-answer}
+use Rattle.writer.specs.Written as Written
+use Rattle.writer.proofs.Laws.{write-answer}
 use Rattle.capi.specs.Capi as Capi
 use Rattle.capi.proofs.Bounds.{sum, one-within, described-fits}
-use Rattle.capi.proofs.Ended.{open-crossed, seal-crossed}
+use Rattle.capi.proofs.Ended.{write-crossed, open-crossed, seal-crossed}
 
 -- ---- the word
 
@@ -99,7 +102,32 @@ module _ (info password : List ℕ) where
         subst (λ (c : Capi.Left). Tells (c .word) (replied .reply .answer) (replied .reply .size))
         (seal-crossed info password _ (replied .reply) out (replied .out) refl pack given low high refl refl) (word-tells _ _ seal-small)
 
--- ---- sixteen bytes
+-- a new EncryptionInfo
+module _ (bits : ℕ) (password name : List ℕ) (saltLow saltHigh verifierLow verifierHigh fillingLow fillingHigh : ℕ) (out : List ℕ) where
+  abbrev new : Sheet.Left
+  new =
+      Written.written (Capi.bitCount bits .0) password name (Capi.sixteen saltLow saltHigh) (Capi.sixteen verifierLow verifierHigh)
+      (Capi.twelve fillingLow fillingHigh) out
+
+  write-small : new .reply .answer < 65536
+  unfolding Written.writeRules
+  write-small =
+      rw (write-answer (Capi.bitCount bits .0) password name _ _ _ out)
+      (small (Written.writeRules (Capi.bitCount bits .0) (length password) (length name) (length out)) (omega arith))
+
+  pub write-tells : Tells (Capi.written bits password name saltLow saltHigh verifierLow verifierHigh fillingLow fillingHigh out .word)
+      (new .reply .answer) (new .reply .size)
+  unfolding Capi.written
+  write-tells =
+      subst (λ (c : Capi.Left). Tells (c .word) (new .reply .answer) (new .reply .size))
+      (write-crossed _ _ _ _ _ _ _ (new .reply) out (new .out) refl refl) (word-tells _ _ write-small)
+
+-- a key's length in bits, if it is one
+pub bits-cross : (bits : ℕ) → bits < 256 ^ 4 → Capi.bitCount bits .0 ≡ bits
+unfolding Capi.bitCount
+bits-cross bits h = rw (le-ltb 4294967295 bits (omega arith))
+
+-- ---- sixteen bytes, and twelve
 
 pub sixteen-all : (b : List ℕ) → Bytes b → length b ≡ 16 → Capi.sixteen (leAt 8 0 b) (leAt 8 8 b) ≡ b
 unfolding Capi.sixteen
@@ -108,6 +136,17 @@ sixteen-all b k n =
     let high = leBytes-leAt 8 8 b k (omega arith) in
     let end : take 8 (drop 8 b) ≡ drop 8 b = take-all 8 (drop 8 b) (simp length-drop (omega arith)) in
     rw (low, high, end) (take-append-drop 8 b)
+
+twelve-is : (low high : ℕ) → Capi.twelve low high ≡ leBytes 8 low ++ leBytes 4 high
+unfolding Capi.twelve Capi.sixteen leBytes
+twelve-is low high = refl
+
+pub twelve-all : (b : List ℕ) → Bytes b → length b ≡ 12 → Capi.twelve (leAt 8 0 b) (leAt 4 8 b) ≡ b
+twelve-all b k n =
+    let low = leBytes-leAt 8 0 b k (omega arith) in
+    let high = leBytes-leAt 4 8 b k (omega arith) in
+    let end : take 4 (drop 8 b) ≡ drop 8 b = take-all 4 (drop 8 b) (simp length-drop (omega arith)) in
+    rw (twelve-is, low, high, end) (take-append-drop 8 b)
 
 -- ---- the descriptor
 

@@ -1,17 +1,21 @@
 -- What each outside function returns and leaves, for every input (01, "What the product does" and "The numbered replies"). Its parts
 -- are those of the crates below; here is how they cross: numbers, sixteen bytes, a descriptor. Assumes nothing.
 use mathlib.Core.Path.{_≡_}
+use mathlib.Core.Bool.{cond}
 use mathlib.Core.List.{List, _++_}
 use Prim.Native.Nat.{ℕ, zero, suc, _+_, _*_, _^_, _<_}
-use lib.ListN.{length}
+use lib.Dec.{ltb}
+use lib.ListN.{length, take}
 use Rattle.octets.specs.Octets.{leBytes}
 use Rattle.sha1.specs.Sha1 as Sha1
 use Rattle.aes.specs.Aes as Aes
 use Rattle.aes.specs.declared.Reply.{Reply}
 use Rattle.descriptor.specs.Info as Info
+use Rattle.descriptor.specs.declared.BitCount.{BitCount}
 use Rattle.descriptor.specs.declared.Descriptor.{Descriptor}
 use Rattle.password.specs.Verdict as Verdict
 use Rattle.sheet.specs.Sheet as Sheet
+use Rattle.writer.specs.Written as Written
 
 -- ---- how values cross
 
@@ -22,6 +26,14 @@ word answer size = answer + 65536 * size
 -- sixteen bytes of two numbers: the first eight, then the last, each low byte first
 unfoldable pub sixteen : ℕ → ℕ → List ℕ
 sixteen low high = leBytes 8 low ++ leBytes 8 high
+
+-- the first twelve of them
+unfoldable pub twelve : ℕ → ℕ → List ℕ
+twelve low high = take 12 (sixteen low high)
+
+-- a number of bits as KeySize holds it in four bytes: a larger one counts as 0, which is no key's
+unfoldable pub bitCount : ℕ → BitCount
+bitCount bits = record { 0 = cond (ltb 4294967295 bits) 0 bits }
 
 -- a descriptor's numbers in 20 bytes, low byte first: both versions, AlgID, the key's size in bytes, the name's place and its length
 unfoldable pub numberBytes : Descriptor → List ℕ
@@ -64,7 +76,7 @@ unfoldable pub ended : (answer size : ℕ) (written out : List ℕ) → Left
 ended zero size written out = left (word 0 size) written
 ended (suc n) size written out = left (word (suc n) 0) out
 
--- the same for the reply of a block operation, and for what opening or sealing left
+-- the same for the reply of a block operation, and for what opening, sealing or writing left
 unfoldable pub block : Reply → List ℕ → Left
 block r out = ended (r .answer) 0 (r .block) out
 
@@ -99,3 +111,9 @@ opened info password stream out = sheet (Sheet.opened info password stream out) 
 -- `ropeshadow_seal`, the filling in two numbers
 unfoldable pub sealed : (info password pack : List ℕ) (low high : ℕ) (out : List ℕ) → Left
 sealed info password pack low high out = sheet (Sheet.sealed info password pack (sixteen low high) out) out
+
+-- `ropeshadow_write_info`, salt, verifier and filling in two numbers each
+unfoldable pub written : (bits : ℕ) (password name : List ℕ) (saltLow saltHigh verifierLow verifierHigh fillingLow fillingHigh : ℕ) (out : List ℕ) → Left
+written bits password name saltLow saltHigh verifierLow verifierHigh fillingLow fillingHigh out =
+    sheet (Written.written (bitCount bits .0) password name (sixteen saltLow saltHigh) (sixteen verifierLow verifierHigh) (twelve fillingLow fillingHigh) out)
+    out

@@ -3,7 +3,7 @@
 //     uint64_t word = ropeshadow_open(info, info_size, password, units, stream, stream_size, out, room);
 //     if (word % 65536 == 0) { .. the first word / 65536 bytes of out .. }
 //
-// Each returns one number, 01's answer + 65,536 x the size; the size is 0 but for a sheet opened or sealed. With an answer other than
+// Each returns one number, 01's answer + 65,536 x the size; the size is 0 but for a sheet opened or sealed and a descriptor written. With an answer other than
 // 0 the size is 0 and `out` is as it was (specs/Capi.antt).
 //
 // To C a lent slice is two parameters, where it starts and how many elements it has: `&[u8]` is `const uint8_t *, size_t`, `&[u16]` is
@@ -20,7 +20,9 @@ mod fields;
 mod numbers;
 
 use aes::Reply;
+use numbers::bit_count;
 use numbers::sixteen;
+use numbers::twelve;
 use numbers::word;
 
 // SHA-1 of a message.
@@ -111,5 +113,36 @@ pub extern "C" fn ropeshadow_seal(
     ensures { λ r. ⌜ left r (now (out .exit)) ≡ Capi.sealed (now (info .entry)) (now (password .entry)) (now (contents .entry)) low high (now (out .entry)) ⌝ }
 {
     let r = sheet::seal(info, password, contents, sixteen(low, high), out);
+    word(r.answer, r.size)
+}
+
+// A new EncryptionInfo written into out, for a key of so many bits. Of the filling the first twelve bytes count.
+#[no_mangle]
+pub extern "C" fn ropeshadow_write_info(
+    bits: u64,
+    password: &[u16],
+    name: &[u8],
+    salt_low: u64,
+    salt_high: u64,
+    verifier_low: u64,
+    verifier_high: u64,
+    filling_low: u64,
+    filling_high: u64,
+    out: &mut [u8],
+) -> u64
+    ensures { λ r. ⌜ left r (now (out .exit)) ≡ Capi.written bits (now (password .entry)) (now (name .entry)) «salt_low» «salt_high» «verifier_low» «verifier_high» «filling_low» «filling_high» (now (out .entry)) ⌝ }
+{
+    let salt = sixteen(salt_low, salt_high);
+    let verifier = sixteen(verifier_low, verifier_high);
+    let filling = twelve(filling_low, filling_high);
+    let r = writer::write_info(
+        bit_count(bits),
+        password,
+        name,
+        salt,
+        verifier,
+        filling,
+        out,
+    );
     word(r.answer, r.size)
 }

@@ -98,7 +98,7 @@ pub fn parses() {
 }
 
 // The verdict on a password.
-fn verdict(what: &[u8], info: &[u8], password: &[u16]) {
+pub fn verdict(what: &[u8], info: &[u8], password: &[u16]) {
     lines::text(b"verdict ");
     lines::text(what);
     lines::text(b": answer ");

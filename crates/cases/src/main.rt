@@ -2,6 +2,7 @@
 // is given once where a later rule is broken too, so that the order shows; a refused call shows its buffer as it was.
 mod info;
 mod sheets;
+mod writes;
 
 fn main() {
     info::parses();
@@ -9,4 +10,6 @@ fn main() {
     sheets::round_trips();
     sheets::refusals();
     sheets::published();
+    writes::written();
+    writes::unwritten();
 }

@@ -1,7 +1,7 @@
 // Opening and sealing: there and back under each key size, each reply, and the ciphertext of 000 8.1. Every buffer is full of a5
 // before the call.
 // A reply and the whole buffer after it, a long one by its hash.
-fn left(reply: sheet::Reply, out: &[u8]) {
+pub fn left(reply: sheet::Reply, out: &[u8]) {
     lines::text(b": answer ");
     lines::number(reply.answer as u64);
     lines::text(b" size ");

@@ -77,6 +77,11 @@ pub record Known (x : Suite) : Type 0 where
   pub bits : OneOf (128 ∷ 192 ∷ 256 ∷ []) (x .bits .0)
   pub rounds : x .rounds ≡ x .bits .0 / 32 + 6
 
+-- the three of them
+pub suites : (stream.suiteOf 0x660e ≡ stream.suite 0 128 10) × (stream.suiteOf 0x660f ≡ stream.suite 0 192 12) × (stream.suiteOf 0x6610 ≡ stream.suite 0 256 14)
+unfolding stream.suiteOf
+suites = (refl, refl, refl)
+
 pub suite-known : (a : ℕ) → stream.suiteOf a .answer ≡ 0 → Known (stream.suiteOf a)
 unfolding stream.suiteOf
 suite-known a h =
@@ -94,7 +99,8 @@ suite-known a h =
     six : _≡_ {A = ℕ} 6 0 → ⊥
     six h = omega arith
 
-in-bytes : (n : ℕ) → OneOf (128 ∷ 192 ∷ 256 ∷ []) n → OneOf (16 ∷ 24 ∷ 32 ∷ []) (n / 8)
+-- so many bits in bytes
+pub in-bytes : (n : ℕ) → OneOf (128 ∷ 192 ∷ 256 ∷ []) n → OneOf (16 ∷ 24 ∷ 32 ∷ []) (n / 8)
 in-bytes n (inl e) = inl (ap (λ (k : ℕ). k / 8) e)
 in-bytes n (inr (inl e)) = inr (inl (ap (λ (k : ℕ). k / 8) e))
 in-bytes n (inr (inr (inl e))) = inr (inr (inl (ap (λ (k : ℕ). k / 8) e)))

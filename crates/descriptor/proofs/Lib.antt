@@ -1,2 +1,4 @@
--- `Laws`: what a stream that breaks no rule satisfies, by the rules' numbers, and what a parse gives.
+-- `Laws`: what a stream that breaks no rule satisfies, by the rules' numbers, and what a parse gives. `LaidOut`: a stream laid out from
+-- its fields gives them back.
 pub mod Laws
+pub mod LaidOut

@@ -76,7 +76,7 @@ pub fn suite_of(alg: u32) -> Suite
 }
 
 // A count of bits in bytes.
-fn in_bytes(n: BitCount) -> ByteCount
+pub fn in_bytes(n: BitCount) -> ByteCount
     ensures { λ r. ⌜ r ≡ record { 0 = n .0 / 8 } ⌝ }
 {
     ByteCount((n.0 / 8) as usize)

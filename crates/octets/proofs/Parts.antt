@@ -75,13 +75,6 @@ module _ {A : Type 0} where
   paste-next p s d at n hp hs =
       rw (take-at p d at hp, take-all n s (omega arith), ← hp, drop-append-add)
 
-  -- the same in a buffer that is filled from its front, z standing from there on
-  pub fill-next : (p s x y : List A) (at n m : ℕ) (z : A) → length p ≡ at → length s ≡ n → x ≡ p ++ replicate (n + m) z → y ≡ paste x at s n
-      → y ≡ (p ++ s) ++ replicate m z
-  fill-next p s x y at n m z hp hs e f =
-      let left : n + m - n ≡ m = omega arith in
-      f ∙ ap (λ (l : List A). paste l at s n) e ∙ paste-next p s (replicate (n + m) z) at n hp hs ∙ rw (drop-replicate, left)
-
   -- a list laid up to the end of another, or past it
   pub paste-end : (d s : List A) (at n : ℕ) → length s ≡ n → length d ≤ at + n → paste d at s n ≡ take at d ++ s
   paste-end d s at n hs hd = rw (take-all n s (omega arith), drop-of-length-le d hd) (append-nil (take at d ++ s))

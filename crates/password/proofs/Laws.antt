@@ -1,16 +1,17 @@
 -- The ways out of the verdict: a law for each, for this crate's proofs and those above. Assumes nothing.
-use mathlib.Core.Path.{_≡_, sym, ap, _∙_}
+use mathlib.Core.Path.{_≡_, refl, sym, ap, _∙_}
 use mathlib.Core.Bool.{true, false}
-use mathlib.Core.List.{List}
+use mathlib.Core.List.{List, _++_}
 use mathlib.Core.Logic.{inl, inr, ⊎-elim}
 use Prim.Native.Nat.{ℕ, _≤_, _<_}
 use native.Mathlib.Omega.{arith}
 use borrow.Author.Tests.{lt-ltb, le-ltb, ne-eqb, eqb-true, eqb-false}
 use lib.Dec.{eqb}
-use lib.ListN.{length, take, length-append}
-use lib.Seq.{length-take-le}
+use lib.ListN.{length, take, drop, length-append}
+use lib.Seq.{take-at, length-take-le}
 use Rattle.octets.specs.Octets.{Bytes, same}
 use Rattle.octets.proofs.Below.{append-below, take-below}
+use Rattle.octets.proofs.Equal.{same-self}
 use Rattle.answers.specs.Rules.{firstOf}
 use Rattle.answers.proofs.Laws.{either, stop, then, both-zero}
 use Rattle.sha1.proofs.Laws.{length-sha1, sha1-bytes}
@@ -23,6 +24,7 @@ use Rattle.descriptor.specs.declared.Parsed.{Parsed}
 use Rattle.descriptor.proofs.Laws.{Admitted, Sound, info-numbered, parsed-answer, parsed-fields}
 use Rattle.password.specs.Key as Key
 use Rattle.password.specs.Verdict as Verdict
+use Rattle.password.specs.declared.Unlocked.{Unlocked}
 
 -- ---- the key
 
@@ -38,6 +40,14 @@ pub keyBytes-bytes : (n : ℕ) (salt p : List ℕ) → Bytes (Key.keyBytes n sal
 unfolding Key.keyBytes
 keyBytes-bytes n salt p = take-below n (Key.material salt p) (material-bytes salt p)
 
+pub length-keyBytes : (n : ℕ) (salt p : List ℕ) → n ≤ 40 → length (Key.keyBytes n salt p) ≡ n
+unfolding Key.keyBytes
+length-keyBytes n salt p h = length-take-le n (Key.material salt p) (omega (arith, length-material salt p))
+
+pub keyOf-is : (d : Descriptor) (p : List ℕ) → Verdict.keyOf d p ≡ Key.keyBytes (d .key .0) (d .salt) p
+unfolding Verdict.keyOf
+keyOf-is d p = refl
+
 pub key-bytes : (d : Descriptor) (p : List ℕ) → Bytes (Verdict.keyOf d p)
 unfolding Verdict.keyOf
 key-bytes d p = keyBytes-bytes (d .key .0) (d .salt) p
@@ -48,8 +58,8 @@ module _ (d : Descriptor) (p : List ℕ) (h : Sound d) where
   key-short = ⊎-elim (λ e. omega arith) (⊎-elim (λ e. omega arith) (⊎-elim (λ e. omega arith) (λ e. absurd e))) (h .key)
 
   pub length-key : length (Verdict.keyOf d p) ≡ d .key .0
-  unfolding Verdict.keyOf Key.keyBytes
-  length-key = length-take-le (d .key .0) (Key.material (d .salt) p) (omega (arith, length-material (d .salt) p, key-short))
+  unfolding Verdict.keyOf
+  length-key = length-keyBytes (d .key .0) (d .salt) p (omega (arith, key-short))
 
   pub key-fits : keyLength (length (Verdict.keyOf d p)) ≡ true
   key-fits = rw length-key (key-lengths (d .key .0) (h .key))
@@ -105,6 +115,18 @@ module _ (info p : List ℕ) (v : Verdict.judged info p ≡ 0) where
   pub unlocked-key : Verdict.unlocked info p .key ≡ expanded (Verdict.keyOf (described info) p)
   unfolding Verdict.unlocked
   unlocked-key = simp v
+
+-- ---- what makes a verdict of 0
+
+-- a verifier that decrypts to v, and a hash field that decrypts to the hash of v first
+pub matching : (k v verifier hash rest : List ℕ) → decryption k verifier ≡ v
+    → decryption k (take 16 hash) ++ decryption k (drop 16 hash) ≡ sha1 v ++ rest → Verdict.matches k verifier hash ≡ true
+unfolding Verdict.matches Verdict.verifierHash
+matching k v verifier hash rest e f = rw (e, f, take-at (sha1 v) rest 20 (length-sha1 v)) (same-self (sha1 v))
+
+pub accepted : (info p : List ℕ) → Admitted info → length p ≤ 255
+    → Verdict.matches (Verdict.keyOf (described info) p) (described info .verifier) (described info .hash) ≡ true → Verdict.judged info p ≡ 0
+accepted info p h l m = sym (unlocked-answer info p) ∙ ap (λ (u : Unlocked). u .answer) (done info p h l m)
 
 -- ---- what the verdict depends on
 

@@ -20,7 +20,7 @@ use Rattle.sheet.specs.Sheet.{sheetKey, sealing, filledWith, sealingOf}
 use Rattle.sheet.proofs.Lengths.{sealable}
 use Rattle.sheet.proofs.Laws.{open-by-stream, seal-by-pack, seal-done}
 use Rattle.promises.specs.Cases.{_is_, Case, seals, refuses, answers, passes, names, table, Outside, Claim, Every}
-use Rattle.promises.proofs.Rows.{_and_}
+use Rattle.answers.proofs.Rows.{_and_}
 
 -- what a row claims of our entries
 abbrev Ours : Case → Type 0

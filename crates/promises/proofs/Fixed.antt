@@ -1,4 +1,5 @@
--- Demands 1 and 2 leave nothing open: whoever keeps them is the entry itself, for every input. Assumes nothing.
+-- Demands 1 and 2, and the promise of new descriptors, leave nothing open: whoever keeps them is the entry itself, for every input. Assumes
+-- nothing.
 use mathlib.Core.Path.{_≡_, refl, sym, ap, _∙_}
 use mathlib.Core.List.{List, _++_}
 use Prim.Native.Nat.{ℕ, zero, suc, _-_}
@@ -12,7 +13,9 @@ use Rattle.promises.specs.Words.{Parser, Judge, Opener, Sealer, Answers}
 use Rattle.promises.specs.One.{Call, Demand1, openNumbers, sealNumbers}
 use Rattle.promises.specs.Two.{Demand2}
 use Rattle.promises.proofs.One.{demand-1}
+use Rattle.promises.specs.NewInfo.{Input, Typed, Writer, rulesOf, streamOf, writeNumbers, NewInfo}
 use Rattle.promises.proofs.Two.{demand-2}
+use Rattle.promises.proofs.NewInfo.{writes, new-info}
 
 -- one list of rules gives one answer
 pub one-answer : (rs : List Rule) (n m : ℕ) → Answers rs n → Answers rs m → n ≡ m
@@ -72,3 +75,9 @@ module _ (parses : Parser) (judges : Judge) (opens : Opener) (seals : Sealer)
       (two .seal-answer info password pack given out g) (demand-2 .seal-answer info password pack given out g) in
       one-left sealNumbers (sealingOf info password (filledWith pack given)) out _ _
       (one .sealing info password pack given out g) (demand-1 .sealing info password pack given out g) e
+
+pub the-writer : (w : Writer) (parses : Parser) (judges : Judge) (opens : Opener) (seals : Sealer) → NewInfo w parses judges opens seals
+    → (i : Input) (out : List ℕ) → Typed i → w i out ≡ writes i out
+the-writer w parses judges opens seals n i out t =
+    one-left writeNumbers (streamOf i) out _ _ (n .call i out t) (new-info .call i out t)
+    (one-answer (rulesOf i (length out)) _ _ (n .answers i out t) (new-info .answers i out t))

@@ -1,49 +1,52 @@
 -- Instances of what the promises take for granted. Nothing is computed on a package: its length is a law. Assumes nothing.
-use mathlib.Core.Path.{_≡_, refl, ap, _∙_}
-use mathlib.Core.Logic.{inl, inr}
-use mathlib.Core.List.{List, [], _∷_, _++_}
-use Prim.Native.Nat.{ℕ, _-_, _^_, _≤_, _<_}
+use mathlib.Core.Path.{refl, ap, _∙_}
+use mathlib.Core.List.{List, [], _∷_}
+use Prim.Native.Nat.{ℕ, _^_, _≤_, _<_}
 use native.Mathlib.Omega.{arith}
 use lib.Dec.{lit<, lit≤}
 use lib.ListN.{length, replicate, length-replicate}
 use lib.Seq.{take-all}
-use Rattle.octets.specs.Octets.{le, leAt, leBytes}
-use Rattle.octets.proofs.Below.{replicate-below, leBytes-bytes}
+use Rattle.octets.specs.Octets.{Bytes, le, leAt, leBytes}
+use Rattle.octets.proofs.Below.{nil-bytes, replicate-below, leBytes-bytes}
 use Rattle.octets.proofs.Numbers.{length-leBytes, le-leBytes}
 use Rattle.answers.specs.Rules.{OneOf, firstOf}
 use Rattle.descriptor.specs.Info as Info
 use Rattle.descriptor.specs.Info.{parsed}
+use Rattle.descriptor.specs.LaidOut.{laidOut, front, verifier, numbers}
 use Rattle.password.specs.Verdict.{judged}
 use Rattle.sheet.specs.Frame.{streamSize}
 use Rattle.sheet.specs.Sheet.{limit, filledWith}
 use Rattle.sheet.proofs.Laws.{filled-lawful, length-filling}
+use Rattle.writer.specs.Written.{infoOf}
+use Rattle.writer.proofs.Back.{Given, info-bytes, info-bits, info-accepted}
 use Rattle.promises.specs.Cases.{table}
 use Rattle.promises.specs.Possible.{Locks, Fills, Long, Told, Instances, Possible}
-use Rattle.promises.proofs.Rows.{_and_}
-use Rattle.promises.proofs.Witness.{front, numbers, made, made-bytes, size-is, accepted}
+use Rattle.answers.proofs.Rows.{_and_}
 
 -- ---- accepted passwords
 
-module _ (password : List ℕ) (l : length password ≤ 255) where
-  zeros : List ℕ
-  zeros = replicate 16 0
+-- the writer makes an EncryptionInfo for each: here with no name, and zeros for salt, verifier and filling
+locks : (bits : ℕ) → OneOf (128 ∷ 192 ∷ 256 ∷ []) bits → (password : List ℕ) → length password ≤ 255 → Locks judged bits password
+locks bits k password l =
+    record {
+      info = infoOf bits password [] (replicate 16 0) (replicate 16 0) (replicate 12 0);
+      bytes = info-bytes bits password [] _ _ _ given nil-bytes (zeros 16) (zeros 16) (zeros 12);
+      size = info-bits bits password [] _ _ _ given;
+      verdict = info-accepted bits password [] _ _ _ given;
+    }
+  where
+    zeros : (n : ℕ) → Bytes (replicate n 0)
+    zeros n = replicate-below n 0 (omega arith)
 
-  locked : (alg bits rounds : ℕ) → Info.suiteOf alg ≡ Info.suite 0 bits rounds → alg < 256 ^ 4 → bits < 256 ^ 4 → Locks judged bits password
-  unfolding zeros
-  locked alg bits rounds k a b =
-      record {
-        info = made alg bits zeros password zeros;
-        bytes = made-bytes alg bits zeros password zeros (replicate-below 16 0 (omega arith)) (replicate-below 16 0 (omega arith));
-        size = size-is alg bits zeros password zeros b;
-        verdict = accepted alg bits zeros password zeros refl refl rounds k a b l;
-      }
-
-  locks : (bits : ℕ) → OneOf (128 ∷ 192 ∷ 256 ∷ []) bits → Locks judged bits password
-  unfolding Info.suiteOf
-  locks bits (inl e) = rw e (locked 0x660e 128 10 refl (lit< tt) (lit< tt))
-  locks bits (inr (inl e)) = rw e (locked 0x660f 192 12 refl (lit< tt) (lit< tt))
-  locks bits (inr (inr (inl e))) = rw e (locked 0x6610 256 14 refl (lit< tt) (lit< tt))
-  locks bits (inr (inr (inr e))) = absurd e
+    given : Given bits password [] (replicate 16 0) (replicate 16 0) (replicate 12 0)
+    given =
+        record {
+          salt-long = refl;
+          verifier-long = refl;
+          filling-long = refl;
+          room = 116;
+          fits = record { short = omega arith; even = refl; key = k; typed = l; roomy = omega arith };
+        }
 
 -- ---- packages and streams
 
@@ -76,13 +79,33 @@ fills size h = filled (long size) (long 16)
 
 -- ---- rows
 
--- an EncryptionInfo with these fields, so many bytes of name, and so many after VerifierHashSize
+-- an EncryptionInfo of version 3.2 with these fields, so many bytes after its header's numbers, and a hash field of so many
 sample : (header extra alg bits name n : ℕ) → List ℕ
 sample header extra alg bits name n =
-    front header extra alg bits ++ (replicate name 0 ++ (leBytes 4 16 ++ (replicate 32 0 ++ (leBytes 4 20 ++ replicate n 0))))
+    laidOut (record {
+      major = 3;
+      minor = 2;
+      flags = 0;
+      headerSize = header;
+      headerFlags = 0;
+      sizeExtra = extra;
+      algId = alg;
+      algIdHash = 0x8004;
+      keySize = bits;
+      providerType = 0;
+      reserved1 = 0;
+      reserved2 = 0;
+      name = replicate name 0;
+      opaque = [];
+      saltSize = 16;
+      salt = replicate 16 0;
+      encryptedVerifier = replicate 16 0;
+      verifierHashSize = 20;
+      encryptedVerifierHash = replicate n 0;
+    })
 
 rows : Instances parsed table
-unfolding sample front numbers leBytes leAt le parsed firstOf Info.infoRules Info.major Info.minor Info.headerSize Info.sizeExtra Info.algId
+unfolding sample laidOut front verifier numbers leBytes leAt le parsed firstOf Info.infoRules Info.major Info.minor Info.headerSize Info.sizeExtra Info.algId
     Info.algIdHash Info.keySize Info.saltSize Info.verifierHashSize Info.badVersion Info.badHeaderSize Info.badName Info.suiteOf
 rows =
     (fills 0 (lit≤ tt), long 8)  -- P1
@@ -106,4 +129,4 @@ rows =
     and tt
 
 pub possible : Possible parsed judged
-possible = record { locks = λ bits k password l. locks password l bits k; fills = fills; rows = rows }
+possible = record { locks = locks; fills = fills; rows = rows }

@@ -7,7 +7,8 @@ use lib.ListN.{length, take, drop, set, replicate, length-append, length-drop, l
 use lib.Seq.{paste, set-at, take-at, drop-drop, take-append-le, drop-append-le}
 use Rattle.octets.specs.Octets.{beBytes}
 use Rattle.octets.proofs.Numbers.{length-beBytes, beBytes-wide}
-use Rattle.octets.proofs.Parts.{drop-take, part-part, paste-next, drop-replicate, fill-next}
+use Rattle.octets.proofs.Parts.{drop-take, part-part, paste-next, drop-replicate}
+use Rattle.octets.proofs.Filled.{Filled, none, more, whole}
 use Rattle.sha1.specs.Sha1 as fips
 use Rattle.sha1.specs.declared.State.{State}
 use Rattle.sha1.specs.Ending.{endingBlocks, Ends}
@@ -106,14 +107,9 @@ pub output-law : (s : State) (x₁ x₂ x₃ x₄ x₅ : List ℕ) → x₁ ≡ 
     → x₃ ≡ paste x₂ 8 (beBytes 4 (s .c)) 4 → x₄ ≡ paste x₃ 12 (beBytes 4 (s .d)) 4 → x₅ ≡ paste x₄ 16 (beBytes 4 (s .e)) 4 → x₅ ≡ fips.output s
 unfolding fips.output fips.wordBytes
 output-law s x₁ x₂ x₃ x₄ x₅ e₁ e₂ e₃ e₄ e₅ =
-    let two : List ℕ = beBytes 4 (s .a) ++ beBytes 4 (s .b) in
-    let three : List ℕ = two ++ beBytes 4 (s .c) in
-    let four : List ℕ = three ++ beBytes 4 (s .d) in
-    let y₁ : x₁ ≡ beBytes 4 (s .a) ++ replicate 16 0 = fill-next [] (beBytes 4 (s .a)) (replicate 20 0) x₁ 0 4 16 0 refl (long (s .a)) refl e₁ in
-    let y₂ : x₂ ≡ two ++ replicate 12 0 = fill-next (beBytes 4 (s .a)) (beBytes 4 (s .b)) x₁ x₂ 4 4 12 0 (long (s .a)) (long (s .b)) y₁ e₂ in
-    let y₃ : x₃ ≡ three ++ replicate 8 0 = fill-next two (beBytes 4 (s .c)) x₂ x₃ 8 4 8 0 (simp (length-append, length-beBytes)) (long (s .c)) y₂ e₃ in
-    let y₄ : x₄ ≡ four ++ replicate 4 0 = fill-next three (beBytes 4 (s .d)) x₃ x₄ 12 4 4 0 (simp (length-append, length-beBytes)) (long (s .d)) y₃ e₄ in
-    fill-next four (beBytes 4 (s .e)) x₄ x₅ 16 4 0 0 (simp (length-append, length-beBytes)) (long (s .e)) y₄ e₅ ∙ (simp (append-nil, append-assoc))
+    let two = word (s .b) 4 12 x₂ (word (s .a) 0 16 x₁ (none (replicate 20 0) 20 refl) e₁) e₂ in
+    let four = word (s .d) 12 4 x₄ (word (s .c) 8 8 x₃ two e₃) e₄ in
+    whole (word (s .e) 16 0 x₅ four e₅) ∙ (simp (append-nil, append-assoc))
   where
-    long : (v : ℕ) → length (beBytes 4 v) ≡ 4
-    long v = length-beBytes 4 v
+    word : {p x : List ℕ} (v at m : ℕ) (y : List ℕ) → Filled p x at (4 + m) → y ≡ paste x at (beBytes 4 v) 4 → Filled (p ++ beBytes 4 v) y (at + 4) m
+    word v at m y f e = more at 4 m (beBytes 4 v) y f (length-beBytes 4 v) e

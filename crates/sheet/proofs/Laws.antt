@@ -32,6 +32,10 @@ unfolding ended
 ended-refused zero size content out h = absurd (h refl)
 ended-refused (suc n) size content out h = refl
 
+pub ended-done : (n size : ℕ) (content out : List ℕ) → n ≡ 0 → ended n size content out ≡ left (reply 0 size) (content ++ replicate (length out - size) 0)
+unfolding ended
+ended-done n size content out h = rw h
+
 -- two lists of rules end to end
 module _ (rs ts : List Rule) (size : ℕ) (content out : List ℕ) where
   by-first : (firstOf rs ≡ 0 → ⊥) → ended (firstOf (rs ++ ts)) size content out ≡ left (reply (firstOf rs) 0) out
@@ -42,8 +46,7 @@ module _ (rs ts : List Rule) (size : ℕ) (content out : List ℕ) where
     by-second h = rw (then rs ts t z) (ended-refused (firstOf ts) size content out h)
 
     by-none : firstOf ts ≡ 0 → ended (firstOf (rs ++ ts)) size content out ≡ left (reply 0 size) (content ++ replicate (length out - size) 0)
-    unfolding ended
-    by-none h = rw (then rs ts t z, h)
+    by-none h = ended-done (firstOf (rs ++ ts)) size content out (then rs ts t z ∙ h)
 
 -- ---- opening and sealing
 

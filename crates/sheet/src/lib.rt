@@ -42,14 +42,14 @@ fn stream_size(stream: &[u8]) -> usize
 }
 
 // The reply of a call that writes nothing.
-fn refused(answer: u16) -> Reply
+pub fn refused(answer: u16) -> Reply
     ensures { λ r. ⌜ r ≡ reply answer 0 ⌝ }
 {
     Reply { answer, size: 0 }
 }
 
 // The reply of a call that has written `size` bytes, and zeros after them.
-fn done(size: usize, out: &mut [u8]) -> Reply
+pub fn done(size: usize, out: &mut [u8]) -> Reply
     ensures { λ r. ⌜ (r ≡ reply 0 size) × (now (out .exit) ≡ zeroFrom size (now (out .entry))) ⌝ }
 {
     octets::zero_from(out, size);

@@ -1,0 +1,239 @@
+-- A stream that is laid out from its fields gives each of them back, wherever HeaderSize tells where EncryptionVerifier begins and no
+-- number is too large for its place. Assumes nothing.
+use mathlib.Core.Path.{_≡_, refl, sym, ap, _∙_}
+use mathlib.Core.Bool.{false, not}
+use mathlib.Core.Logic.{inl, inr}
+use mathlib.Core.List.{List, [], _∷_, _++_, append-nil, append-assoc}
+use Prim.Native.Nat.{ℕ, _+_, _-_, _*_, _%_, _^_, _≤_, _<_}
+use native.Mathlib.Numerals.{add-one}
+use native.Mathlib.Omega.{arith}
+use borrow.Author.Tests.{eq-eqb, le-ltb}
+use lib.ListN.{length, getD, take, drop, length-append}
+use lib.Seq.{take-suc, take-at, drop-at, drop-append-add, take-all}
+use Rattle.octets.specs.Octets.{Bytes, leAt, le, leBytes}
+use Rattle.octets.proofs.Below.{append-below, leBytes-bytes, nil-bytes}
+use Rattle.octets.proofs.Numbers.{length-leBytes, le-leBytes, leAt-here}
+use Rattle.answers.specs.Rules.{OneOf}
+use Rattle.answers.proofs.Laws.{none-broken}
+use Rattle.answers.proofs.Rows.{_and_}
+use Rattle.descriptor.specs.Info as stream
+use Rattle.descriptor.specs.LaidOut.{Fields, numbers, front, verifier, laidOut, says}
+use Rattle.descriptor.proofs.Laws.{Admitted, info-numbered}
+
+-- the fields are as long as they have to be, and HeaderSize and SizeExtra tell how long the name and the opaque bytes are
+pub record Sized (f : Fields) : Type 0 where
+  pub header : f .headerSize ≡ 32 + (length (f .name) + length (f .opaque))
+  pub extra : f .sizeExtra ≡ length (f .opaque)
+  pub salt : length (f .salt) ≡ 16
+  pub verifier : length (f .encryptedVerifier) ≡ 16
+  pub hash : length (f .encryptedVerifierHash) ≡ 32
+
+-- the numbers that are looked at have room
+pub record Held (f : Fields) : Type 0 where
+  pub major : f .major < 256 ^ 2
+  pub minor : f .minor < 256 ^ 2
+  pub header : f .headerSize < 256 ^ 4
+  pub extra : f .sizeExtra < 256 ^ 4
+  pub alg : f .algId < 256 ^ 4
+  pub hash : f .algIdHash < 256 ^ 4
+  pub key : f .keySize < 256 ^ 4
+  pub salt : f .saltSize < 256 ^ 4
+  pub verifier : f .verifierHashSize < 256 ^ 4
+
+-- and break none of the rules 2, 3 and 5 to 10
+pub record Good (f : Fields) : Type 0 where
+  pub minor : f .minor ≡ 2
+  pub major : OneOf (2 ∷ 3 ∷ 4 ∷ []) (f .major)
+  pub header : f .headerSize ≤ 4096
+  pub even : length (f .name) % 2 ≡ 0
+  pub alg : stream.suiteOf (f .algId) .answer ≡ 0
+  pub hash : f .algIdHash ≡ 0x8004
+  pub key : f .keySize ≡ stream.suiteOf (f .algId) .bits .0
+  pub salt : f .saltSize ≡ 16
+  pub verifier : f .verifierHashSize ≡ 20
+
+version-good : (major : ℕ) → OneOf (2 ∷ 3 ∷ 4 ∷ []) major → stream.badVersion major 2 ≡ false
+unfolding stream.badVersion
+version-good major (inl e) = rw e
+version-good major (inr (inl e)) = rw e
+version-good major (inr (inr (inl e))) = rw e
+version-good major (inr (inr (inr e))) = absurd e
+
+-- a part of a list, past its first
+past : (x s : List ℕ) (n m : ℕ) → length x ≡ n → drop (n + m) (x ++ s) ≡ drop m s
+past x s n m e = rw (← e) (drop-append-add x s m)
+
+-- ---- numbers in four bytes each
+
+pub length-numbers : (ns : List ℕ) → length (numbers ns) ≡ 4 * length ns
+unfolding numbers
+length-numbers [] = refl
+length-numbers (n ∷ ns) = simp (length-append, length-leBytes) (omega (arith, length-numbers ns))
+
+numbers-append : (x y : List ℕ) → numbers (x ++ y) ≡ numbers x ++ numbers y
+unfolding numbers
+numbers-append [] y = refl
+numbers-append (n ∷ x) y = rw (numbers-append x y) (sym (append-assoc (leBytes 4 n) (numbers x) (numbers y)))
+
+pub numbers-more : (ns : List ℕ) (i : ℕ) → i < length ns → numbers (take (i + 1) ns) ≡ numbers (take i ns) ++ leBytes 4 (getD ns i 0)
+unfolding numbers
+numbers-more ns i h = rw (add-one, take-suc ns i 0 h) (numbers-append (take i ns) (getD ns i 0 ∷ []) ∙ rw append-nil)
+
+numbers-bytes : (ns : List ℕ) → Bytes (numbers ns)
+unfolding numbers
+numbers-bytes [] = nil-bytes
+numbers-bytes (n ∷ ns) = append-below (leBytes 4 n) (numbers ns) (leBytes-bytes 4 n) (numbers-bytes ns)
+
+-- ---- the stream
+
+module _ (f : Fields) where
+  abbrev s : List ℕ
+  s = laidOut f
+
+  length-front : length (front f) ≡ 44
+  unfolding front numbers leBytes
+  length-front = refl
+
+  pub laid-bytes : Bytes (f .name) → Bytes (f .opaque) → Bytes (f .salt) → Bytes (f .encryptedVerifier) → Bytes (f .encryptedVerifierHash) → Bytes s
+  unfolding laidOut front verifier
+  laid-bytes n o b v h =
+      let versions = append-below _ _ (leBytes-bytes 2 (f .major)) (leBytes-bytes 2 (f .minor)) in
+      let header = append-below _ _ (append-below _ _ (append-below _ _ versions (numbers-bytes _)) n) o in
+      let salts = append-below _ _ (append-below _ _ (leBytes-bytes 4 (f .saltSize)) b) v in
+      append-below _ _ header (append-below _ _ (append-below _ _ salts (leBytes-bytes 4 (f .verifierHashSize))) h)
+
+  -- ---- the numbers before the name stand at fixed places
+
+  module _ (h : Held f) where
+    pub major-is : stream.major s ≡ f .major
+    unfolding stream.major laidOut front numbers leAt leBytes
+    major-is = le-leBytes 2 (f .major) (h .major)
+
+    pub minor-is : stream.minor s ≡ f .minor
+    unfolding stream.minor laidOut front numbers leAt leBytes
+    minor-is = le-leBytes 2 (f .minor) (h .minor)
+
+    pub header-is : stream.headerSize s ≡ f .headerSize
+    unfolding stream.headerSize laidOut front numbers leAt leBytes
+    header-is = le-leBytes 4 (f .headerSize) (h .header)
+
+    pub extra-is : stream.sizeExtra s ≡ f .sizeExtra
+    unfolding stream.sizeExtra laidOut front numbers leAt leBytes
+    extra-is = le-leBytes 4 (f .sizeExtra) (h .extra)
+
+    pub alg-is : stream.algId s ≡ f .algId
+    unfolding stream.algId laidOut front numbers leAt leBytes
+    alg-is = le-leBytes 4 (f .algId) (h .alg)
+
+    pub hash-alg-is : stream.algIdHash s ≡ f .algIdHash
+    unfolding stream.algIdHash laidOut front numbers leAt leBytes
+    hash-alg-is = le-leBytes 4 (f .algIdHash) (h .hash)
+
+    pub key-is : stream.keySize s ≡ f .keySize
+    unfolding stream.keySize laidOut front numbers leAt leBytes
+    key-is = le-leBytes 4 (f .keySize) (h .key)
+
+    -- ---- what follows the name and the opaque bytes
+
+    module _ (z : Sized f) where
+      before : List ℕ
+      before = front f ++ f .name ++ f .opaque
+
+      length-before : length before ≡ 12 + f .headerSize
+      unfolding before
+      length-before = simp (length-append, length-front) (omega (arith, z .header))
+
+      behind : (k : ℕ) → drop (12 + k + stream.headerSize s) s ≡ drop k (verifier f)
+      unfolding laidOut before
+      behind k =
+          let e : 12 + k + stream.headerSize s ≡ length before + k = omega (arith, header-is, length-before) in
+          ap (λ (n : ℕ). drop n s) e ∙ drop-append-add before (verifier f) k
+
+      hashes : List ℕ
+      hashes = leBytes 4 (f .verifierHashSize) ++ f .encryptedVerifierHash
+
+      rest : List ℕ
+      rest = f .encryptedVerifier ++ hashes
+
+      parts : verifier f ≡ leBytes 4 (f .saltSize) ++ (f .salt ++ rest)
+      unfolding verifier rest hashes
+      parts = simp append-assoc
+
+      at-4 : (m : ℕ) → drop (4 + m) (verifier f) ≡ drop m (f .salt ++ rest)
+      at-4 m = ap (drop (4 + m)) parts ∙ past (leBytes 4 (f .saltSize)) (f .salt ++ rest) 4 m (length-leBytes 4 (f .saltSize))
+
+      at-20 : (m : ℕ) → drop (20 + m) (verifier f) ≡ drop m rest
+      at-20 m =
+          let e : 20 + m ≡ 4 + (16 + m) = omega arith in
+          ap (λ (n : ℕ). drop n (verifier f)) e ∙ at-4 (16 + m) ∙ past (f .salt) rest 16 m (z .salt)
+
+      at-36 : (m : ℕ) → drop (36 + m) (verifier f) ≡ drop m hashes
+      unfolding rest
+      at-36 m =
+          let e : 36 + m ≡ 20 + (16 + m) = omega arith in
+          ap (λ (n : ℕ). drop n (verifier f)) e ∙ at-20 (16 + m) ∙ past (f .encryptedVerifier) hashes 16 m (z .verifier)
+
+      salt-size-is : stream.saltSize s ≡ f .saltSize
+      unfolding stream.saltSize leAt
+      salt-size-is = ap (λ (l : List ℕ). le (take 4 l)) (behind 0 ∙ parts) ∙ leAt-here 4 (f .saltSize) (f .salt ++ rest) (h .salt)
+
+      salt-is : stream.saltOf s ≡ f .salt
+      unfolding stream.saltOf
+      salt-is = ap (take 16) (behind 4 ∙ at-4 0) ∙ take-at (f .salt) rest 16 (z .salt)
+
+      verifier-is : stream.encryptedVerifier s ≡ f .encryptedVerifier
+      unfolding stream.encryptedVerifier rest
+      verifier-is = ap (take 16) (behind 20 ∙ at-20 0) ∙ take-at (f .encryptedVerifier) hashes 16 (z .verifier)
+
+      hash-size-is : stream.verifierHashSize s ≡ f .verifierHashSize
+      unfolding stream.verifierHashSize leAt hashes
+      hash-size-is = ap (λ (l : List ℕ). le (take 4 l)) (behind 36 ∙ at-36 0) ∙ leAt-here 4 (f .verifierHashSize) (f .encryptedVerifierHash) (h .verifier)
+
+      hash-is : stream.encryptedVerifierHash s ≡ f .encryptedVerifierHash
+      unfolding stream.encryptedVerifierHash hashes
+      hash-is =
+          ap (take 32)
+          (behind 40 ∙ at-36 4 ∙ drop-at (leBytes 4 (f .verifierHashSize)) (f .encryptedVerifierHash) 4 (length-leBytes 4 (f .verifierHashSize)))
+          ∙ take-all 32 (f .encryptedVerifierHash) (omega (arith, z .hash))
+
+      -- ---- so the parse gives them
+
+      pub length-laid : length s ≡ f .headerSize + 84
+      unfolding laidOut verifier
+      length-laid = simp (length-append, length-front, length-leBytes, z .salt, z .verifier, z .hash) (omega (arith, z .header))
+
+      pub laid-described : stream.described s ≡ says f
+      unfolding stream.described
+      laid-described =
+          let n : f .headerSize - 32 - f .sizeExtra ≡ length (f .name) = omega (arith, z .header, z .extra) in
+          rw (major-is, minor-is, alg-is, key-is, header-is, extra-is, salt-is, verifier-is, hash-is, n)
+
+      pub laid-name : take (length (f .name)) (drop 44 s) ≡ f .name
+      unfolding laidOut
+      laid-name =
+          let e : laidOut f ≡ front f ++ (f .name ++ (f .opaque ++ verifier f)) = simp append-assoc in
+          ap (λ (l : List ℕ). take (length (f .name)) (drop 44 l)) e
+          ∙ ap (take (length (f .name))) (drop-at (front f) (f .name ++ (f .opaque ++ verifier f)) 44 length-front)
+          ∙ take-at (f .name) (f .opaque ++ verifier f) (length (f .name)) refl
+
+      name-good : Good f → stream.badName (f .headerSize) (f .sizeExtra) ≡ false
+      unfolding stream.badName
+      name-good g =
+          let n : f .headerSize - 32 - f .sizeExtra ≡ length (f .name) = omega (arith, z .header, z .extra) in
+          rw (le-ltb (f .headerSize) (32 + f .sizeExtra) (omega (arith, z .header, z .extra)), n, g .even)
+
+      pub laid-admitted : Good f → Admitted s
+      unfolding stream.infoRules stream.badHeaderSize
+      laid-admitted g =
+          none-broken (stream.infoRules s) (info-numbered s) .1
+          (le-ltb (length s) 12 (omega (arith, length-laid))
+          and rw (major-is, minor-is, g .minor) (version-good (f .major) (g .major))
+          and (rw (header-is, le-ltb (f .headerSize) 32 (omega (arith, z .header)), le-ltb 4096 (f .headerSize) (g .header)))
+          and rw header-is (ap not (eq-eqb _ _ length-laid))
+          and rw (header-is, extra-is) (name-good g)
+          and rw alg-is (ap not (eq-eqb _ _ (g .alg)))
+          and rw hash-alg-is (ap not (eq-eqb _ _ (g .hash)))
+          and rw (key-is, alg-is) (ap not (eq-eqb _ _ (g .key)))
+          and rw salt-size-is (ap not (eq-eqb _ _ (g .salt)))
+          and rw hash-size-is (ap not (eq-eqb _ _ (g .verifier)))
+          and tt)

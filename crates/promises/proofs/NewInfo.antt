@@ -1,0 +1,102 @@
+-- Our writer keeps its promise: what it writes is laid out by the fields that the parser reads, and AES undoes itself on the verifier. That
+-- sheets open under it is demand 3's. Assumes nothing.
+use mathlib.Core.Path.{_≡_, sym, ap, subst⁻¹, _∙_}
+use mathlib.Core.List.{List}
+use Prim.Native.Nat.{ℕ, _+_}
+use lib.ListN.{length}
+use lib.Seq.{take-at}
+use Rattle.answers.specs.Rules.{firstOf}
+use Rattle.answers.proofs.Laws.{listed}
+use Rattle.descriptor.specs.Info.{parsed}
+use Rattle.descriptor.specs.declared.Descriptor.{Descriptor}
+use Rattle.descriptor.proofs.Laws.{parsed-answer, parsed-fields}
+use Rattle.password.specs.Verdict.{judged}
+use Rattle.sheet.specs.Sheet.{Left, opened, sealed}
+use Rattle.writer.specs.Written as Written
+use Rattle.writer.specs.Written.{infoSize, writeRules, verifierField, hashField}
+use Rattle.writer.proofs.Laws.{writable, write-numbered, write-answer, write-done}
+use Rattle.writer.proofs.Back.{Given, newDescriptor, info-admitted, info-described, info-name, info-accepted, length-info}
+use Rattle.promises.specs.Words.{Accepted, written}
+use Rattle.promises.specs.One.{Call}
+use Rattle.promises.specs.NewInfo.{Input, Typed, Writer, rulesOf, streamOf, writeNumbers, GivesBack, NewInfo}
+use Rattle.promises.proofs.Ended.{ended-call, by-rules}
+use Rattle.promises.proofs.Three.{demand-3}
+
+-- `write_info`
+pub writes : Writer
+writes i out = Written.written (i .bits) (i .password) (i .name) (i .salt) (i .verifier) (i .filling) out
+
+module _ (i : Input) (out : List ℕ) (t : Typed i) where
+  answered : writes i out .reply .answer ≡ firstOf (rulesOf i (length out))
+  unfolding writes
+  answered = write-answer (i .bits) (i .password) (i .name) (i .salt) (i .verifier) (i .filling) out
+
+  given : firstOf (rulesOf i (length out)) ≡ 0 → Given (i .bits) (i .password) (i .name) (i .salt) (i .verifier) (i .filling)
+  given z =
+      record {
+        salt-long = t .salt;
+        verifier-long = t .verifier;
+        filling-long = t .filling;
+        room = length out;
+        fits = writable (i .bits) (length (i .password)) (length (i .name)) (length out) .0 z;
+      }
+
+  long : firstOf (rulesOf i (length out)) ≡ 0 → length (streamOf i) ≡ 116 + length (i .name)
+  long z = length-info (i .bits) (i .password) (i .name) (i .salt) (i .verifier) (i .filling) (given z)
+
+  call : Call writeNumbers (streamOf i) out (writes i out)
+  unfolding writes Written.written writeRules infoSize given
+  call =
+      ended-call writeNumbers (firstOf (rulesOf i (length out))) (infoSize (length (i .name))) (streamOf i) out (listed (rulesOf i (length out)))
+      (λ z. (sym (long z), given z .fits .roomy))
+
+  module _ (a : Accepted (writes i out)) where
+    zero-is : firstOf (rulesOf i (length out)) ≡ 0
+    zero-is = sym answered ∙ a
+
+    -- what the call wrote is the stream
+    wrote : written (writes i out) ≡ streamOf i
+    unfolding writes
+    wrote =
+        ap (λ (l : Left). written l) (write-done (i .bits) (i .password) (i .name) (i .salt) (i .verifier) (i .filling) out zero-is)
+        ∙ take-at (streamOf i) _ (116 + length (i .name)) (long zero-is)
+
+    size : writes i out .reply .size ≡ 116 + length (i .name)
+    size = call .accepted a .size ∙ long zero-is
+
+    fields : parsed (streamOf i) .fields ≡ newDescriptor (i .bits) (i .password) (i .name) (i .salt) (i .verifier) (i .filling)
+    fields =
+        let g = given zero-is in
+        parsed-fields (streamOf i) (info-admitted _ _ _ _ _ _ g) ∙ info-described _ _ _ _ _ _ g
+
+    back : GivesBack parsed judged i (streamOf i)
+    unfolding verifierField hashField
+    back =
+        let g = given zero-is in
+        record {
+          answer = parsed-answer (streamOf i) ∙ info-admitted _ _ _ _ _ _ g;
+          major = ap (λ (d : Descriptor). d .major) fields;
+          minor = ap (λ (d : Descriptor). d .minor) fields;
+          alg = ap (λ (d : Descriptor). d .alg) fields;
+          key = ap (λ (d : Descriptor). d .key .0) fields;
+          place = ap (λ (d : Descriptor). d .place) fields;
+          name = ap (λ (d : Descriptor). d .name) fields;
+          salt = ap (λ (d : Descriptor). d .salt) fields;
+          verifier = ap (λ (d : Descriptor). d .verifier) fields;
+          hash = ap (λ (d : Descriptor). d .hash) fields;
+          named = info-name _ _ _ _ _ _ g;
+          verdict = info-accepted _ _ _ _ _ _ g;
+        }
+
+    written-back : GivesBack parsed judged i (written (writes i out))
+    written-back = subst⁻¹ (GivesBack parsed judged i) wrote back
+
+pub new-info : NewInfo writes parsed judged opened sealed
+new-info =
+    record {
+      answers = λ i out t. rw (answered i out t) (by-rules (rulesOf i (length out)) (write-numbered _ _ _ (length out)));
+      call = call;
+      size = size;
+      back = written-back;
+      opening = λ i out t a p w. demand-3 .under (written (writes i out)) (i .password) (written-back i out t a .verdict) .a p w;
+    }

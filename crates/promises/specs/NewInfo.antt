@@ -1,0 +1,80 @@
+-- New descriptors (request 2026-01). A writer answers by its rules, touches nothing on a refusal, and on acceptance leaves the stream and
+-- zeros. From every stream that it writes the parser gives back each field, the name stands at its place, and the password is accepted;
+-- so a sheet sealed under it opens. Assumes nothing.
+use mathlib.Core.Path.{_≡_}
+use mathlib.Core.List.{List, [], _∷_, _++_}
+use Prim.Native.Nat.{ℕ, _+_, _/_}
+use lib.ListN.{length, take, drop}
+use Rattle.answers.specs.Rules.{Rule}
+use Rattle.sha1.specs.Sha1.{sha1}
+use Rattle.aes.specs.Aes.{encryption}
+use Rattle.password.specs.Key.{keyBytes}
+use Rattle.blocks.specs.Blocks.{ecb}
+use Rattle.sheet.specs.Frame.{Pair, Lawful}
+use Rattle.sheet.specs.Sheet.{Left, lengths}
+use Rattle.writer.specs.Written.{algIdOf, writeRules, infoOf}
+use Rattle.promises.specs.Words.{Parser, Judge, Opener, Sealer, Accepted, Answers, written}
+use Rattle.promises.specs.One.{Call}
+use Rattle.promises.specs.Three.{Round}
+
+-- ---- what comes in
+
+-- a key size in bits, a password, a provider name, and by value a salt, a verifier and a filling
+pub record Input : Type 0 where
+  pub bits : ℕ
+  pub password : List ℕ
+  pub name : List ℕ
+  pub salt : List ℕ
+  pub verifier : List ℕ
+  pub filling : List ℕ
+
+-- the values are as long as their types say
+pub record Typed (i : Input) : Type 0 where
+  pub salt : length (i .salt) ≡ 16
+  pub verifier : length (i .verifier) ≡ 16
+  pub filling : length (i .filling) ≡ 12
+
+-- an input and the output as it was give an answer, a size and the output as it is left
+abbrev pub Writer : Type 0
+Writer = (i : Input) (out : List ℕ) → Left
+
+abbrev pub rulesOf : Input → (room : ℕ) → List Rule
+rulesOf i room = writeRules (i .bits) (length (i .password)) (length (i .name)) room
+
+abbrev pub streamOf : Input → List ℕ
+streamOf i = infoOf (i .bits) (i .password) (i .name) (i .salt) (i .verifier) (i .filling)
+
+-- the key of the published derivation
+abbrev pub keyOf : Input → List ℕ
+keyOf i = keyBytes (i .bits / 8) (i .salt) (i .password)
+
+abbrev pub writeNumbers : List ℕ
+writeNumbers = 0 ∷ 3 ∷ 5 ∷ 8 ∷ 11 ∷ 16 ∷ []
+
+-- ---- what is given back
+
+-- a stream from which a parser gives back each field, with the name at its place, and on whose password a judge says 0
+pub record GivesBack (parses : Parser) (judges : Judge) (i : Input) (info : List ℕ) : Type 0 where
+  pub answer : parses info .answer ≡ 0
+  pub major : parses info .fields .major ≡ 3
+  pub minor : parses info .fields .minor ≡ 2
+  pub alg : parses info .fields .alg ≡ algIdOf (i .bits)
+  pub key : parses info .fields .key .0 ≡ i .bits / 8
+  pub place : parses info .fields .place ≡ 44
+  pub name : parses info .fields .name ≡ length (i .name)
+  pub salt : parses info .fields .salt ≡ i .salt
+  pub verifier : parses info .fields .verifier ≡ encryption (keyOf i) (i .verifier)
+  pub hash : parses info .fields .hash ≡ ecb (encryption (keyOf i)) (sha1 (i .verifier) ++ i .filling)
+  pub named : take (length (i .name)) (drop 44 info) ≡ i .name
+  pub verdict : judges info (i .password) ≡ 0
+
+pub record NewInfo (writes : Writer) (parses : Parser) (judges : Judge) (opens : Opener) (seals : Sealer) : Type 0 where
+  -- as demands 1 and 2 ask of the other entries
+  pub answers : (i : Input) (out : List ℕ) → Typed i → Answers (rulesOf i (length out)) (writes i out .reply .answer)
+  pub call : (i : Input) (out : List ℕ) → Typed i → Call writeNumbers (streamOf i) out (writes i out)
+  pub size : (i : Input) (out : List ℕ) → Typed i → Accepted (writes i out) → writes i out .reply .size ≡ 116 + length (i .name)
+  -- everything can be read again
+  pub back : (i : Input) (out : List ℕ) → Typed i → Accepted (writes i out) → GivesBack parses judges i (written (writes i out))
+  -- and every package, with every filling of its last block, seals under it into a stream that opens to that package
+  pub opening : (i : Input) (out : List ℕ) → Typed i → Accepted (writes i out)
+      → (p : Pair) → Lawful lengths p → Round opens seals (written (writes i out)) (i .password) p
