@@ -104,34 +104,28 @@ module _ (f : Fields) where
 
   -- ---- the numbers before the name stand at fixed places
 
+  pub record Reads : Type 0 where
+    pub major : stream.major s ≡ f .major
+    pub minor : stream.minor s ≡ f .minor
+    pub header : stream.headerSize s ≡ f .headerSize
+    pub extra : stream.sizeExtra s ≡ f .sizeExtra
+    pub alg : stream.algId s ≡ f .algId
+    pub hash : stream.algIdHash s ≡ f .algIdHash
+    pub key : stream.keySize s ≡ f .keySize
+
   module _ (h : Held f) where
-    pub major-is : stream.major s ≡ f .major
-    unfolding stream.major laidOut front numbers leAt leBytes
-    major-is = le-leBytes 2 (f .major) (h .major)
-
-    pub minor-is : stream.minor s ≡ f .minor
-    unfolding stream.minor laidOut front numbers leAt leBytes
-    minor-is = le-leBytes 2 (f .minor) (h .minor)
-
-    pub header-is : stream.headerSize s ≡ f .headerSize
-    unfolding stream.headerSize laidOut front numbers leAt leBytes
-    header-is = le-leBytes 4 (f .headerSize) (h .header)
-
-    pub extra-is : stream.sizeExtra s ≡ f .sizeExtra
-    unfolding stream.sizeExtra laidOut front numbers leAt leBytes
-    extra-is = le-leBytes 4 (f .sizeExtra) (h .extra)
-
-    pub alg-is : stream.algId s ≡ f .algId
-    unfolding stream.algId laidOut front numbers leAt leBytes
-    alg-is = le-leBytes 4 (f .algId) (h .alg)
-
-    pub hash-alg-is : stream.algIdHash s ≡ f .algIdHash
-    unfolding stream.algIdHash laidOut front numbers leAt leBytes
-    hash-alg-is = le-leBytes 4 (f .algIdHash) (h .hash)
-
-    pub key-is : stream.keySize s ≡ f .keySize
-    unfolding stream.keySize laidOut front numbers leAt leBytes
-    key-is = le-leBytes 4 (f .keySize) (h .key)
+    pub reads : Reads
+    unfolding laidOut front numbers leAt leBytes stream.major stream.minor stream.headerSize stream.sizeExtra stream.algId stream.algIdHash stream.keySize
+    reads =
+        record {
+          major = le-leBytes 2 (f .major) (h .major);
+          minor = le-leBytes 2 (f .minor) (h .minor);
+          header = le-leBytes 4 (f .headerSize) (h .header);
+          extra = le-leBytes 4 (f .sizeExtra) (h .extra);
+          alg = le-leBytes 4 (f .algId) (h .alg);
+          hash = le-leBytes 4 (f .algIdHash) (h .hash);
+          key = le-leBytes 4 (f .keySize) (h .key);
+        }
 
     -- ---- what follows the name and the opaque bytes
 
@@ -146,7 +140,7 @@ module _ (f : Fields) where
       behind : (k : ℕ) → drop (12 + k + stream.headerSize s) s ≡ drop k (verifier f)
       unfolding laidOut before
       behind k =
-          let e : 12 + k + stream.headerSize s ≡ length before + k = omega (arith, header-is, length-before) in
+          let e : 12 + k + stream.headerSize s ≡ length before + k = omega (arith, reads .header, length-before) in
           ap (λ (n : ℕ). drop n s) e ∙ drop-append-add before (verifier f) k
 
       hashes : List ℕ
@@ -206,7 +200,7 @@ module _ (f : Fields) where
       unfolding stream.described
       laid-described =
           let n : f .headerSize - 32 - f .sizeExtra ≡ length (f .name) = omega (arith, z .header, z .extra) in
-          rw (major-is, minor-is, alg-is, key-is, header-is, extra-is, salt-is, verifier-is, hash-is, n)
+          rw (reads .major, reads .minor, reads .alg, reads .key, reads .header, reads .extra, salt-is, verifier-is, hash-is, n)
 
       pub laid-name : take (length (f .name)) (drop 44 s) ≡ f .name
       unfolding laidOut
@@ -227,13 +221,13 @@ module _ (f : Fields) where
       laid-admitted g =
           none-broken (stream.infoRules s) (info-numbered s) .1
           (le-ltb (length s) 12 (omega (arith, length-laid))
-          and rw (major-is, minor-is, g .minor) (version-good (f .major) (g .major))
-          and (rw (header-is, le-ltb (f .headerSize) 32 (omega (arith, z .header)), le-ltb 4096 (f .headerSize) (g .header)))
-          and rw header-is (ap not (eq-eqb _ _ length-laid))
-          and rw (header-is, extra-is) (name-good g)
-          and rw alg-is (ap not (eq-eqb _ _ (g .alg)))
-          and rw hash-alg-is (ap not (eq-eqb _ _ (g .hash)))
-          and rw (key-is, alg-is) (ap not (eq-eqb _ _ (g .key)))
+          and rw (reads .major, reads .minor, g .minor) (version-good (f .major) (g .major))
+          and (rw (reads .header, le-ltb (f .headerSize) 32 (omega (arith, z .header)), le-ltb 4096 (f .headerSize) (g .header)))
+          and rw (reads .header) (ap not (eq-eqb _ _ length-laid))
+          and rw (reads .header, reads .extra) (name-good g)
+          and rw (reads .alg) (ap not (eq-eqb _ _ (g .alg)))
+          and rw (reads .hash) (ap not (eq-eqb _ _ (g .hash)))
+          and rw (reads .key, reads .alg) (ap not (eq-eqb _ _ (g .key)))
           and rw salt-size-is (ap not (eq-eqb _ _ (g .salt)))
           and rw hash-size-is (ap not (eq-eqb _ _ (g .verifier)))
           and tt)

@@ -19,7 +19,7 @@ use Rattle.descriptor.specs.LaidOut.{Fields}
 use Rattle.descriptor.specs.declared.Descriptor.{Descriptor}
 use Rattle.descriptor.specs.declared.Suite.{Suite}
 use Rattle.descriptor.proofs.Laws.{Admitted}
-use Rattle.descriptor.proofs.LaidOut.{Held, Sized, Good, key-is, laid-bytes, laid-admitted, laid-described, laid-name, length-laid}
+use Rattle.descriptor.proofs.LaidOut.{Held, Sized, Good, reads, laid-bytes, laid-admitted, laid-described, laid-name, length-laid}
 use Rattle.password.specs.Verdict.{keyOf, matches, judged}
 use Rattle.password.proofs.Laws.{keyBytes-bytes, keyOf-is, matching, accepted}
 use Rattle.blocks.specs.Stream.{Fit}
@@ -28,7 +28,7 @@ use Rattle.blocks.proofs.Reversible.{whole-fit}
 use Rattle.blocks.proofs.Ecb.{ecb-two}
 use Rattle.blocks.proofs.Aes.{aes-ecb-reversible, length-encrypted}
 use Rattle.writer.specs.Written.{algIdOf, verifierField, hashField, newFields, infoOf}
-use Rattle.writer.proofs.Laws.{Key, key-size, Writable, newKey}
+use Rattle.writer.proofs.Laws.{key-size, Writable, newKey}
 
 module _ (bits : ℕ) (password name salt verifier filling : List ℕ) where
   abbrev info : List ℕ
@@ -127,7 +127,7 @@ module _ (bits : ℕ) (password name salt verifier filling : List ℕ) where
 
     pub info-bits : keySize info ≡ bits
     unfolding infoOf newFields
-    info-bits = key-is fields held
+    info-bits = reads fields held .key
 
     pub info-bytes : Bytes name → Bytes salt → Bytes verifier → Bytes filling → Bytes info
     unfolding infoOf newFields verifierField hashField

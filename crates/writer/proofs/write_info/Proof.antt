@@ -8,7 +8,7 @@ use Rattle.answers.specs.Rules.{firstOf}
 use Rattle.aes.specs.declared.Expanded.{Expanded}
 use Rattle.blocks.proofs.Aes.{expanded-rounds}
 use Rattle.writer.specs.Written.{nameLimit, writeRules}
-use Rattle.writer.proofs.Laws.{Key, key-size, Writable, writable, newKey, key-fits, write-refused}
+use Rattle.writer.proofs.Laws.{key-size, Writable, writable, newKey, key-fits, write-refused}
 use Rattle.writer.proofs.Laid.{written-laid}
 use Rattle.writer.proofs.write_info.Statement.{statement}
 use Rattle.writer.proofs.write_info.Tie as tie
