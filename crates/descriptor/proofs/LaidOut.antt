@@ -113,59 +113,78 @@ module _ (f : Fields) where
     pub hash : stream.algIdHash s ≡ f .algIdHash
     pub key : stream.keySize s ≡ f .keySize
 
-  module _ (h : Held f) where
-    pub reads : Reads
-    unfolding laidOut front numbers leAt leBytes stream.major stream.minor stream.headerSize stream.sizeExtra stream.algId stream.algIdHash stream.keySize
-    reads =
-        record {
-          major = le-leBytes 2 (f .major) (h .major);
-          minor = le-leBytes 2 (f .minor) (h .minor);
-          header = le-leBytes 4 (f .headerSize) (h .header);
-          extra = le-leBytes 4 (f .sizeExtra) (h .extra);
-          alg = le-leBytes 4 (f .algId) (h .alg);
-          hash = le-leBytes 4 (f .algIdHash) (h .hash);
-          key = le-leBytes 4 (f .keySize) (h .key);
-        }
+  pub reads : Held f → Reads
+  unfolding laidOut front numbers leAt leBytes stream.major stream.minor stream.headerSize stream.sizeExtra stream.algId stream.algIdHash stream.keySize
+  reads h =
+      record {
+        major = le-leBytes 2 (f .major) (h .major);
+        minor = le-leBytes 2 (f .minor) (h .minor);
+        header = le-leBytes 4 (f .headerSize) (h .header);
+        extra = le-leBytes 4 (f .sizeExtra) (h .extra);
+        alg = le-leBytes 4 (f .algId) (h .alg);
+        hash = le-leBytes 4 (f .algIdHash) (h .hash);
+        key = le-leBytes 4 (f .keySize) (h .key);
+      }
 
-    -- ---- what follows the name and the opaque bytes
+  pub laid-name : take (length (f .name)) (drop 44 s) ≡ f .name
+  unfolding laidOut
+  laid-name =
+      let e : laidOut f ≡ front f ++ (f .name ++ (f .opaque ++ verifier f)) = simp append-assoc in
+      ap (λ (l : List ℕ). take (length (f .name)) (drop 44 l)) e
+      ∙ ap (take (length (f .name))) (drop-at (front f) (f .name ++ (f .opaque ++ verifier f)) 44 length-front)
+      ∙ take-at (f .name) (f .opaque ++ verifier f) (length (f .name)) refl
 
-    module _ (z : Sized f) where
-      before : List ℕ
-      before = front f ++ f .name ++ f .opaque
+  -- ---- what follows the name and the opaque bytes
 
-      length-before : length before ≡ 12 + f .headerSize
-      unfolding before
-      length-before = simp (length-append, length-front) (omega (arith, z .header))
+  module _ (z : Sized f) where
+    before : List ℕ
+    before = front f ++ f .name ++ f .opaque
 
+    length-before : length before ≡ 12 + f .headerSize
+    unfolding before
+    length-before = simp (length-append, length-front) (omega (arith, z .header))
+
+    hashes : List ℕ
+    hashes = leBytes 4 (f .verifierHashSize) ++ f .encryptedVerifierHash
+
+    rest : List ℕ
+    rest = f .encryptedVerifier ++ hashes
+
+    parts : verifier f ≡ leBytes 4 (f .saltSize) ++ (f .salt ++ rest)
+    unfolding verifier rest hashes
+    parts = simp append-assoc
+
+    at-4 : (m : ℕ) → drop (4 + m) (verifier f) ≡ drop m (f .salt ++ rest)
+    at-4 m = ap (drop (4 + m)) parts ∙ past (leBytes 4 (f .saltSize)) (f .salt ++ rest) 4 m (length-leBytes 4 (f .saltSize))
+
+    at-20 : (m : ℕ) → drop (20 + m) (verifier f) ≡ drop m rest
+    at-20 m =
+        let e : 20 + m ≡ 4 + (16 + m) = omega arith in
+        ap (λ (n : ℕ). drop n (verifier f)) e ∙ at-4 (16 + m) ∙ past (f .salt) rest 16 m (z .salt)
+
+    at-36 : (m : ℕ) → drop (36 + m) (verifier f) ≡ drop m hashes
+    unfolding rest
+    at-36 m =
+        let e : 36 + m ≡ 20 + (16 + m) = omega arith in
+        ap (λ (n : ℕ). drop n (verifier f)) e ∙ at-20 (16 + m) ∙ past (f .encryptedVerifier) hashes 16 m (z .verifier)
+
+    pub length-laid : length s ≡ f .headerSize + 84
+    unfolding laidOut verifier
+    length-laid = simp (length-append, length-front, length-leBytes, z .salt, z .verifier, z .hash) (omega (arith, z .header))
+
+    name-long : f .headerSize - 32 - f .sizeExtra ≡ length (f .name)
+    name-long = omega (arith, z .header, z .extra)
+
+    name-good : Good f → stream.badName (f .headerSize) (f .sizeExtra) ≡ false
+    unfolding stream.badName
+    name-good g = rw (le-ltb (f .headerSize) (32 + f .sizeExtra) (omega (arith, z .header, z .extra)), name-long, g .even)
+
+    module _ (h : Held f) where
       behind : (k : ℕ) → drop (12 + k + stream.headerSize s) s ≡ drop k (verifier f)
       unfolding laidOut before
       behind k =
-          let e : 12 + k + stream.headerSize s ≡ length before + k = omega (arith, reads .header, length-before) in
+          let e : 12 + k + stream.headerSize s ≡ length before + k = omega (arith, reads h .header, length-before) in
           ap (λ (n : ℕ). drop n s) e ∙ drop-append-add before (verifier f) k
-
-      hashes : List ℕ
-      hashes = leBytes 4 (f .verifierHashSize) ++ f .encryptedVerifierHash
-
-      rest : List ℕ
-      rest = f .encryptedVerifier ++ hashes
-
-      parts : verifier f ≡ leBytes 4 (f .saltSize) ++ (f .salt ++ rest)
-      unfolding verifier rest hashes
-      parts = simp append-assoc
-
-      at-4 : (m : ℕ) → drop (4 + m) (verifier f) ≡ drop m (f .salt ++ rest)
-      at-4 m = ap (drop (4 + m)) parts ∙ past (leBytes 4 (f .saltSize)) (f .salt ++ rest) 4 m (length-leBytes 4 (f .saltSize))
-
-      at-20 : (m : ℕ) → drop (20 + m) (verifier f) ≡ drop m rest
-      at-20 m =
-          let e : 20 + m ≡ 4 + (16 + m) = omega arith in
-          ap (λ (n : ℕ). drop n (verifier f)) e ∙ at-4 (16 + m) ∙ past (f .salt) rest 16 m (z .salt)
-
-      at-36 : (m : ℕ) → drop (36 + m) (verifier f) ≡ drop m hashes
-      unfolding rest
-      at-36 m =
-          let e : 36 + m ≡ 20 + (16 + m) = omega arith in
-          ap (λ (n : ℕ). drop n (verifier f)) e ∙ at-20 (16 + m) ∙ past (f .encryptedVerifier) hashes 16 m (z .verifier)
 
       salt-size-is : stream.saltSize s ≡ f .saltSize
       unfolding stream.saltSize leAt
@@ -192,42 +211,23 @@ module _ (f : Fields) where
 
       -- ---- so the parse gives them
 
-      pub length-laid : length s ≡ f .headerSize + 84
-      unfolding laidOut verifier
-      length-laid = simp (length-append, length-front, length-leBytes, z .salt, z .verifier, z .hash) (omega (arith, z .header))
-
       pub laid-described : stream.described s ≡ says f
       unfolding stream.described
       laid-described =
-          let n : f .headerSize - 32 - f .sizeExtra ≡ length (f .name) = omega (arith, z .header, z .extra) in
-          rw (reads .major, reads .minor, reads .alg, reads .key, reads .header, reads .extra, salt-is, verifier-is, hash-is, n)
-
-      pub laid-name : take (length (f .name)) (drop 44 s) ≡ f .name
-      unfolding laidOut
-      laid-name =
-          let e : laidOut f ≡ front f ++ (f .name ++ (f .opaque ++ verifier f)) = simp append-assoc in
-          ap (λ (l : List ℕ). take (length (f .name)) (drop 44 l)) e
-          ∙ ap (take (length (f .name))) (drop-at (front f) (f .name ++ (f .opaque ++ verifier f)) 44 length-front)
-          ∙ take-at (f .name) (f .opaque ++ verifier f) (length (f .name)) refl
-
-      name-good : Good f → stream.badName (f .headerSize) (f .sizeExtra) ≡ false
-      unfolding stream.badName
-      name-good g =
-          let n : f .headerSize - 32 - f .sizeExtra ≡ length (f .name) = omega (arith, z .header, z .extra) in
-          rw (le-ltb (f .headerSize) (32 + f .sizeExtra) (omega (arith, z .header, z .extra)), n, g .even)
+          rw (reads h .major, reads h .minor, reads h .alg, reads h .key, reads h .header, reads h .extra, salt-is, verifier-is, hash-is, name-long)
 
       pub laid-admitted : Good f → Admitted s
       unfolding stream.infoRules stream.badHeaderSize
       laid-admitted g =
           none-broken (stream.infoRules s) (info-numbered s) .1
           (le-ltb (length s) 12 (omega (arith, length-laid))
-          and rw (reads .major, reads .minor, g .minor) (version-good (f .major) (g .major))
-          and (rw (reads .header, le-ltb (f .headerSize) 32 (omega (arith, z .header)), le-ltb 4096 (f .headerSize) (g .header)))
-          and rw (reads .header) (ap not (eq-eqb _ _ length-laid))
-          and rw (reads .header, reads .extra) (name-good g)
-          and rw (reads .alg) (ap not (eq-eqb _ _ (g .alg)))
-          and rw (reads .hash) (ap not (eq-eqb _ _ (g .hash)))
-          and rw (reads .key, reads .alg) (ap not (eq-eqb _ _ (g .key)))
+          and rw (reads h .major, reads h .minor, g .minor) (version-good (f .major) (g .major))
+          and (rw (reads h .header, le-ltb (f .headerSize) 32 (omega (arith, z .header)), le-ltb 4096 (f .headerSize) (g .header)))
+          and rw (reads h .header) (ap not (eq-eqb _ _ length-laid))
+          and rw (reads h .header, reads h .extra) (name-good g)
+          and rw (reads h .alg) (ap not (eq-eqb _ _ (g .alg)))
+          and rw (reads h .hash) (ap not (eq-eqb _ _ (g .hash)))
+          and rw (reads h .key, reads h .alg) (ap not (eq-eqb _ _ (g .key)))
           and rw salt-size-is (ap not (eq-eqb _ _ (g .salt)))
           and rw hash-size-is (ap not (eq-eqb _ _ (g .verifier)))
           and tt)

@@ -13,7 +13,7 @@ use Rattle.promises.specs.Words.{Parser, Judge, Opener, Sealer, Answers}
 use Rattle.promises.specs.One.{Call, Demand1, openNumbers, sealNumbers}
 use Rattle.promises.specs.Two.{Demand2}
 use Rattle.promises.proofs.One.{demand-1}
-use Rattle.promises.specs.NewInfo.{Input, Typed, Writer, rulesOf, streamOf, writeNumbers, NewInfo}
+use Rattle.promises.specs.NewInfo.{Input, Typed, Writer, rulesFor, infoFor, writeNumbers, NewInfo}
 use Rattle.promises.proofs.Two.{demand-2}
 use Rattle.promises.proofs.NewInfo.{writes, new-info}
 
@@ -79,5 +79,5 @@ module _ (parses : Parser) (judges : Judge) (opens : Opener) (seals : Sealer)
 pub the-writer : (w : Writer) (parses : Parser) (judges : Judge) (opens : Opener) (seals : Sealer) → NewInfo w parses judges opens seals
     → (i : Input) (out : List ℕ) → Typed i → w i out ≡ writes i out
 the-writer w parses judges opens seals n i out t =
-    one-left writeNumbers (streamOf i) out _ _ (n .call i out t) (new-info .call i out t)
-    (one-answer (rulesOf i (length out)) _ _ (n .answers i out t) (new-info .answers i out t))
+    one-left writeNumbers (infoFor i) out _ _ (n .call i out t) (new-info .call i out t)
+    (one-answer (rulesFor i (length out)) _ _ (n .answers i out t) (new-info .answers i out t))

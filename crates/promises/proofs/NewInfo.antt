@@ -18,7 +18,7 @@ use Rattle.writer.proofs.Laws.{writable, write-numbered, write-answer, write-do
 use Rattle.writer.proofs.Back.{Given, newDescriptor, info-admitted, info-described, info-name, info-accepted, length-info}
 use Rattle.promises.specs.Words.{Accepted, written}
 use Rattle.promises.specs.One.{Call}
-use Rattle.promises.specs.NewInfo.{Input, Typed, Writer, rulesOf, streamOf, writeNumbers, GivesBack, NewInfo}
+use Rattle.promises.specs.NewInfo.{Input, Typed, Writer, Within, rulesFor, infoFor, writeNumbers, GivesBack, NewInfo}
 use Rattle.promises.proofs.Ended.{ended-call, by-rules}
 use Rattle.promises.proofs.Three.{demand-3}
 
@@ -27,11 +27,11 @@ pub writes : Writer
 writes i out = Written.written (i .bits) (i .password) (i .name) (i .salt) (i .verifier) (i .filling) out
 
 module _ (i : Input) (out : List ℕ) (t : Typed i) where
-  answered : writes i out .reply .answer ≡ firstOf (rulesOf i (length out))
+  answered : writes i out .reply .answer ≡ firstOf (rulesFor i (length out))
   unfolding writes
   answered = write-answer (i .bits) (i .password) (i .name) (i .salt) (i .verifier) (i .filling) out
 
-  given : firstOf (rulesOf i (length out)) ≡ 0 → Given (i .bits) (i .password) (i .name) (i .salt) (i .verifier) (i .filling)
+  given : firstOf (rulesFor i (length out)) ≡ 0 → Given (i .bits) (i .password) (i .name) (i .salt) (i .verifier) (i .filling)
   given z =
       record {
         salt-long = t .salt;
@@ -41,40 +41,51 @@ module _ (i : Input) (out : List ℕ) (t : Typed i) where
         fits = writable (i .bits) (length (i .password)) (length (i .name)) (length out) .0 z;
       }
 
-  long : firstOf (rulesOf i (length out)) ≡ 0 → length (streamOf i) ≡ 116 + length (i .name)
+  long : firstOf (rulesFor i (length out)) ≡ 0 → length (infoFor i) ≡ 116 + length (i .name)
   long z = length-info (i .bits) (i .password) (i .name) (i .salt) (i .verifier) (i .filling) (given z)
 
-  call : Call writeNumbers (streamOf i) out (writes i out)
+  call : Call writeNumbers (infoFor i) out (writes i out)
   unfolding writes Written.written writeRules infoSize given
   call =
-      ended-call writeNumbers (firstOf (rulesOf i (length out))) (infoSize (length (i .name))) (streamOf i) out (listed (rulesOf i (length out)))
+      ended-call writeNumbers (firstOf (rulesFor i (length out))) (infoSize (length (i .name))) (infoFor i) out (listed (rulesFor i (length out)))
       (λ z. (sym (long z), given z .fits .roomy))
 
+  to-within : Accepted (writes i out) → Within i (length out)
+  to-within a =
+      let w = writable (i .bits) (length (i .password)) (length (i .name)) (length out) .0 (sym answered ∙ a) in
+      record { name = w .short; even = w .even; bits = w .key; password = w .typed; fits = w .roomy }
+
+  of-within : Within i (length out) → Accepted (writes i out)
+  of-within w =
+      answered
+      ∙ writable (i .bits) (length (i .password)) (length (i .name)) (length out)
+      .1 (record { short = w .name; even = w .even; key = w .bits; typed = w .password; roomy = w .fits })
+
   module _ (a : Accepted (writes i out)) where
-    zero-is : firstOf (rulesOf i (length out)) ≡ 0
+    zero-is : firstOf (rulesFor i (length out)) ≡ 0
     zero-is = sym answered ∙ a
 
     -- what the call wrote is the stream
-    wrote : written (writes i out) ≡ streamOf i
+    wrote : written (writes i out) ≡ infoFor i
     unfolding writes
     wrote =
         ap (λ (l : Left). written l) (write-done (i .bits) (i .password) (i .name) (i .salt) (i .verifier) (i .filling) out zero-is)
-        ∙ take-at (streamOf i) _ (116 + length (i .name)) (long zero-is)
+        ∙ take-at (infoFor i) _ (116 + length (i .name)) (long zero-is)
 
     size : writes i out .reply .size ≡ 116 + length (i .name)
     size = call .accepted a .size ∙ long zero-is
 
-    fields : parsed (streamOf i) .fields ≡ newDescriptor (i .bits) (i .password) (i .name) (i .salt) (i .verifier) (i .filling)
+    fields : parsed (infoFor i) .fields ≡ newDescriptor (i .bits) (i .password) (i .name) (i .salt) (i .verifier) (i .filling)
     fields =
         let g = given zero-is in
-        parsed-fields (streamOf i) (info-admitted _ _ _ _ _ _ g) ∙ info-described _ _ _ _ _ _ g
+        parsed-fields (infoFor i) (info-admitted _ _ _ _ _ _ g) ∙ info-described _ _ _ _ _ _ g
 
-    back : GivesBack parsed judged i (streamOf i)
+    back : GivesBack parsed judged i (infoFor i)
     unfolding verifierField hashField
     back =
         let g = given zero-is in
         record {
-          answer = parsed-answer (streamOf i) ∙ info-admitted _ _ _ _ _ _ g;
+          answer = parsed-answer (infoFor i) ∙ info-admitted _ _ _ _ _ _ g;
           major = ap (λ (d : Descriptor). d .major) fields;
           minor = ap (λ (d : Descriptor). d .minor) fields;
           alg = ap (λ (d : Descriptor). d .alg) fields;
@@ -94,7 +105,8 @@ module _ (i : Input) (out : List ℕ) (t : Typed i) where
 pub new-info : NewInfo writes parsed judged opened sealed
 new-info =
     record {
-      answers = λ i out t. rw (answered i out t) (by-rules (rulesOf i (length out)) (write-numbered _ _ _ (length out)));
+      accepts = λ i out t. (λ a. to-within i out t a, λ w. of-within i out t w);
+      answers = λ i out t. rw (answered i out t) (by-rules (rulesFor i (length out)) (write-numbered _ _ _ (length out)));
       call = call;
       size = size;
       back = written-back;

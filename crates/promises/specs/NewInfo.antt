@@ -2,10 +2,11 @@
 -- zeros. From every stream that it writes the parser gives back each field, the name stands at its place, and the password is accepted;
 -- so a sheet sealed under it opens. Assumes nothing.
 use mathlib.Core.Path.{_≡_}
+use mathlib.Core.Logic.{_↔_}
 use mathlib.Core.List.{List, [], _∷_, _++_}
-use Prim.Native.Nat.{ℕ, _+_, _/_}
+use Prim.Native.Nat.{ℕ, _+_, _/_, _%_, _≤_}
 use lib.ListN.{length, take, drop}
-use Rattle.answers.specs.Rules.{Rule}
+use Rattle.answers.specs.Rules.{Rule, OneOf}
 use Rattle.sha1.specs.Sha1.{sha1}
 use Rattle.aes.specs.Aes.{encryption}
 use Rattle.password.specs.Key.{keyBytes}
@@ -38,18 +39,26 @@ pub record Typed (i : Input) : Type 0 where
 abbrev pub Writer : Type 0
 Writer = (i : Input) (out : List ℕ) → Left
 
-abbrev pub rulesOf : Input → (room : ℕ) → List Rule
-rulesOf i room = writeRules (i .bits) (length (i .password)) (length (i .name)) room
+abbrev pub rulesFor : Input → (room : ℕ) → List Rule
+rulesFor i room = writeRules (i .bits) (length (i .password)) (length (i .name)) room
 
-abbrev pub streamOf : Input → List ℕ
-streamOf i = infoOf (i .bits) (i .password) (i .name) (i .salt) (i .verifier) (i .filling)
+abbrev pub infoFor : Input → List ℕ
+infoFor i = infoOf (i .bits) (i .password) (i .name) (i .salt) (i .verifier) (i .filling)
 
 -- the key of the published derivation
-abbrev pub keyOf : Input → List ℕ
-keyOf i = keyBytes (i .bits / 8) (i .salt) (i .password)
+abbrev pub keyFor : Input → List ℕ
+keyFor i = keyBytes (i .bits / 8) (i .salt) (i .password)
 
 abbrev pub writeNumbers : List ℕ
 writeNumbers = 0 ∷ 3 ∷ 5 ∷ 8 ∷ 11 ∷ 16 ∷ []
+
+-- the input is within the limits, and its stream within the room
+pub record Within (i : Input) (room : ℕ) : Type 0 where
+  pub name : length (i .name) ≤ 4064
+  pub even : length (i .name) % 2 ≡ 0
+  pub bits : OneOf (128 ∷ 192 ∷ 256 ∷ []) (i .bits)
+  pub password : length (i .password) ≤ 255
+  pub fits : 116 + length (i .name) ≤ room
 
 -- ---- what is given back
 
@@ -63,15 +72,17 @@ pub record GivesBack (parses : Parser) (judges : Judge) (i : Input) (info : List
   pub place : parses info .fields .place ≡ 44
   pub name : parses info .fields .name ≡ length (i .name)
   pub salt : parses info .fields .salt ≡ i .salt
-  pub verifier : parses info .fields .verifier ≡ encryption (keyOf i) (i .verifier)
-  pub hash : parses info .fields .hash ≡ ecb (encryption (keyOf i)) (sha1 (i .verifier) ++ i .filling)
+  pub verifier : parses info .fields .verifier ≡ encryption (keyFor i) (i .verifier)
+  pub hash : parses info .fields .hash ≡ ecb (encryption (keyFor i)) (sha1 (i .verifier) ++ i .filling)
   pub named : take (length (i .name)) (drop 44 info) ≡ i .name
   pub verdict : judges info (i .password) ≡ 0
 
 pub record NewInfo (writes : Writer) (parses : Parser) (judges : Judge) (opens : Opener) (seals : Sealer) : Type 0 where
+  -- something comes out exactly where the input is within the limits
+  pub accepts : (i : Input) (out : List ℕ) → Typed i → Accepted (writes i out) ↔ Within i (length out)
   -- as demands 1 and 2 ask of the other entries
-  pub answers : (i : Input) (out : List ℕ) → Typed i → Answers (rulesOf i (length out)) (writes i out .reply .answer)
-  pub call : (i : Input) (out : List ℕ) → Typed i → Call writeNumbers (streamOf i) out (writes i out)
+  pub answers : (i : Input) (out : List ℕ) → Typed i → Answers (rulesFor i (length out)) (writes i out .reply .answer)
+  pub call : (i : Input) (out : List ℕ) → Typed i → Call writeNumbers (infoFor i) out (writes i out)
   pub size : (i : Input) (out : List ℕ) → Typed i → Accepted (writes i out) → writes i out .reply .size ≡ 116 + length (i .name)
   -- everything can be read again
   pub back : (i : Input) (out : List ℕ) → Typed i → Accepted (writes i out) → GivesBack parses judges i (written (writes i out))

@@ -6,12 +6,12 @@ use mathlib.Core.List.{List, _++_}
 use Prim.Native.Nat.{ℕ, _+_, _/_, _%_}
 use native.Mathlib.Omega.{arith}
 use lib.Dec.{lit<}
-use lib.ListN.{length, take, drop, length-append, length-drop, take-append-drop}
+use lib.ListN.{length, take, drop, length-drop, take-append-drop}
 use lib.Seq.{take-at, drop-at, length-take-le}
 use Rattle.octets.specs.Octets.{Bytes}
 use Rattle.octets.proofs.Below.{append-below, nil-bytes}
 use Rattle.sha1.specs.Sha1.{sha1}
-use Rattle.sha1.proofs.Laws.{length-sha1, sha1-bytes}
+use Rattle.sha1.proofs.Laws.{sha1-bytes}
 use Rattle.aes.specs.Aes.{encryption, decryption}
 use Rattle.aes.proofs.Keys.{length-encryption, encryption-bytes, decryption-encryption}
 use Rattle.descriptor.specs.Info.{keySize, described}
@@ -26,9 +26,9 @@ use Rattle.blocks.specs.Stream.{Fit}
 use Rattle.blocks.specs.Blocks.{whole}
 use Rattle.blocks.proofs.Reversible.{whole-fit}
 use Rattle.blocks.proofs.Ecb.{ecb-two}
-use Rattle.blocks.proofs.Aes.{aes-ecb-reversible, length-encrypted}
+use Rattle.blocks.proofs.Aes.{aes-ecb-reversible}
 use Rattle.writer.specs.Written.{algIdOf, verifierField, hashField, newFields, infoOf}
-use Rattle.writer.proofs.Laws.{key-size, Writable, newKey}
+use Rattle.writer.proofs.Laws.{key-size, Writable, newKey, hash-filled, length-hash}
 
 module _ (bits : ℕ) (password name salt verifier filling : List ℕ) where
   abbrev info : List ℕ
@@ -64,8 +64,8 @@ module _ (bits : ℕ) (password name salt verifier filling : List ℕ) where
       }
 
   module _ (g : Given) where
-    hash-filled : length (sha1 verifier ++ filling) ≡ 32
-    hash-filled = simp (length-append, length-sha1, g .filling-long)
+    two-blocks : length (sha1 verifier ++ filling) ≡ 32
+    two-blocks = hash-filled verifier filling (g .filling-long)
 
     held : Held fields
     unfolding newFields
@@ -83,14 +83,14 @@ module _ (bits : ℕ) (password name salt verifier filling : List ℕ) where
         }
 
     sized : Sized fields
-    unfolding newFields verifierField hashField
+    unfolding newFields verifierField
     sized =
         record {
           header = omega arith;
           extra = refl;
           salt = g .salt-long;
           verifier = length-encryption key verifier;
-          hash = length-encrypted key (sha1 verifier ++ filling) ∙ rw hash-filled;
+          hash = length-hash key verifier filling (g .filling-long);
         }
 
     good : Good fields
@@ -111,19 +111,19 @@ module _ (bits : ℕ) (password name salt verifier filling : List ℕ) where
     -- the stream breaks no rule
     pub info-admitted : Admitted info
     unfolding infoOf
-    info-admitted = laid-admitted fields held sized good
+    info-admitted = laid-admitted fields sized held good
 
     pub info-described : described info ≡ newDescriptor
     unfolding infoOf newFields
-    info-described = laid-described fields held sized
+    info-described = laid-described fields sized held
 
     pub info-name : take (length name) (drop 44 info) ≡ name
     unfolding infoOf newFields
-    info-name = laid-name fields held sized
+    info-name = laid-name fields
 
     pub length-info : length info ≡ 116 + length name
     unfolding infoOf newFields
-    length-info = length-laid fields held sized ∙ (omega arith)
+    length-info = length-laid fields sized ∙ (omega arith)
 
     pub info-bits : keySize info ≡ bits
     unfolding infoOf newFields
@@ -134,7 +134,7 @@ module _ (bits : ℕ) (password name salt verifier filling : List ℕ) where
     info-bytes n b v r =
         let k : Bytes key = keyBytes-bytes (bits / 8) salt password in
         let hash : Bytes (sha1 verifier ++ filling) = append-below _ _ (sha1-bytes verifier) r in
-        let fit : Fit whole (sha1 verifier ++ filling) = whole-fit (ap (λ (n : ℕ). n % 16) hash-filled) hash in
+        let fit : Fit whole (sha1 verifier ++ filling) = whole-fit (ap (λ (n : ℕ). n % 16) two-blocks) hash in
         laid-bytes fields n nil-bytes b (encryption-bytes key verifier k v) (aes-ecb-reversible key k .forth .bytes (sha1 verifier ++ filling) fit)
 
     -- the two fields decrypt to the verifier, and to its hash and the filling
@@ -149,9 +149,9 @@ module _ (bits : ℕ) (password name salt verifier filling : List ℕ) where
         let x : List ℕ = encryption key (take 16 s) in
         let y : List ℕ = encryption key (drop 16 s) in
         let n : length x ≡ 16 = length-encryption key (take 16 s) in
-        let first : length (take 16 s) ≡ 16 = length-take-le 16 s (omega (arith, hash-filled)) in
-        let second : length (drop 16 s) ≡ 16 = rw (length-drop, hash-filled) in
-        rw (ecb-two (encryption key) s hash-filled, take-at x y 16 n, drop-at x y 16 n, decryption-encryption key (take 16 s) first, decryption-encryption key (drop 16 s) second)
+        let first : length (take 16 s) ≡ 16 = length-take-le 16 s (omega (arith, two-blocks)) in
+        let second : length (drop 16 s) ≡ 16 = rw (length-drop, two-blocks) in
+        rw (ecb-two (encryption key) s two-blocks, take-at x y 16 n, drop-at x y 16 n, decryption-encryption key (take 16 s) first, decryption-encryption key (drop 16 s) second)
         (take-append-drop 16 s)
 
     -- so the password is accepted

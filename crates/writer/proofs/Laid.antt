@@ -4,7 +4,7 @@ use mathlib.Core.Bool.{true}
 use mathlib.Core.List.{List, [], _∷_, _++_, append-nil}
 use Prim.Native.Nat.{ℕ, _+_, _-_, _*_, _<_}
 use native.Mathlib.Omega.{arith}
-use lib.ListN.{length, getD, take, replicate, length-append}
+use lib.ListN.{length, getD, take, replicate}
 use lib.Seq.{paste, take-all, take-at}
 use Rattle.octets.specs.Octets.{leBytes, zeroFrom}
 use Rattle.octets.proofs.Filled.{Filled, none, more, more-le, whole, zeroed}
@@ -18,11 +18,11 @@ use Rattle.descriptor.specs.LaidOut as LaidOut
 use Rattle.descriptor.proofs.LaidOut.{numbers-more, length-numbers}
 use Rattle.blocks.specs.Blocks.{ecb, encrypting}
 use Rattle.blocks.proofs.Ecb.{ecb-one}
-use Rattle.blocks.proofs.Aes.{encrypting-expanded, length-encrypted}
+use Rattle.blocks.proofs.Aes.{encrypting-expanded}
 use Rattle.sheet.specs.Sheet.{left, reply}
 use Rattle.sheet.specs.declared.Reply.{Reply}
 use Rattle.writer.specs.Written as Written
-use Rattle.writer.proofs.Laws.{newKey, writable, write-done}
+use Rattle.writer.proofs.Laws.{newKey, writable, hash-filled, length-hash, write-done}
 
 -- ---- the numbers before the name
 
@@ -75,9 +75,6 @@ module _ (key : Expanded) (k : List ℕ) (t : keyLength (length k) ≡ true) (q 
       ∙ ap (λ (f : List ℕ → List ℕ). ecb f s) (encrypting-expanded k t)
 
   module _ (bits : ℕ) (name salt v filling : List ℕ) (ls : length salt ≡ 16) (lv : length v ≡ 16) (lf : length filling ≡ 12) where
-    filled-long : length (sha1 v ++ filling) ≡ 32
-    filled-long = simp (length-append, length-sha1, lf)
-
     pub verifier-laid : (given hash b₁ b₂ b₃ b₄ b₅ : List ℕ) → hash ≡ sha1 v ++ filling → b₁ ≡ paste (replicate 72 0) 0 (leBytes 4 16) 4
         → b₂ ≡ paste b₁ 4 salt 16 → b₃ ≡ paste b₂ 20 (ecb (encrypting key) (take 16 (v ++ given))) 16 → b₄ ≡ paste b₃ 36 (leBytes 4 20) 4
         → b₅ ≡ paste b₄ 40 (ecb (encrypting key) (take 32 (hash ++ given))) 32
@@ -86,8 +83,8 @@ module _ (key : Expanded) (k : List ℕ) (t : keyLength (length k) ≡ true) (q 
     verifier-laid given hash b₁ b₂ b₃ b₄ b₅ h e₁ e₂ e₃ e₄ e₅ =
         let x : ecb (encrypting key) (take 16 (v ++ given)) ≡ encryption k v = under v given 16 lv ∙ ecb-one (encryption k) v lv in
         let y : ecb (encrypting key) (take 32 (hash ++ given)) ≡ ecb (encryption k) (sha1 v ++ filling) =
-        ap (λ (l : List ℕ). ecb (encrypting key) (take 32 (l ++ given))) h ∙ under (sha1 v ++ filling) given 32 filled-long in
-        let n : length (ecb (encryption k) (sha1 v ++ filling)) ≡ 32 = length-encrypted k (sha1 v ++ filling) ∙ rw filled-long in
+        ap (λ (l : List ℕ). ecb (encrypting key) (take 32 (l ++ given))) h ∙ under (sha1 v ++ filling) given 32 (hash-filled v filling lf) in
+        let n : length (ecb (encryption k) (sha1 v ++ filling)) ≡ 32 = length-hash k v filling lf in
         let salts = more 4 16 52 salt b₂ (more-le 0 4 68 16 b₁ (none (replicate 72 0) 72 refl) e₁) ls e₂ in
         let verifier = more 20 16 36 (encryption k v) b₃ salts (length-encryption k v) (rw x at e₃) in
         whole (more 40 32 0 (ecb (encryption k) (sha1 v ++ filling)) b₅ (more-le 36 4 32 20 b₄ verifier e₄) n (rw y at e₅))

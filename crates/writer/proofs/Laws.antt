@@ -1,5 +1,5 @@
--- The key sizes, what the writer accepts, and its two ways out. Assumes nothing.
-use mathlib.Core.Path.{_≡_, refl, ap}
+-- The key sizes, what the writer accepts, how long the hash field is, and the two ways out. Assumes nothing.
+use mathlib.Core.Path.{_≡_, refl, ap, _∙_}
 use mathlib.Core.Logic.{_↔_, inl, inr}
 use mathlib.Core.Bool.{true, false, not, true≢false}
 use mathlib.Core.List.{List, [], _∷_, _++_}
@@ -7,19 +7,22 @@ use Prim.Native.Nat.{ℕ, _+_, _-_, _/_, _%_, _^_, _≤_, _<_}
 use native.Mathlib.Omega.{arith}
 use borrow.Author.Tests.{le-ltb, ltb-false, eqb-true, eq-eqb, not-false}
 use lib.Dec.{T, eqb, lit<, lit≤}
-use lib.ListN.{length, replicate}
+use lib.ListN.{length, replicate, length-append}
 use Rattle.answers.specs.Rules.{firstOf, numbered, OneOf}
 use Rattle.answers.proofs.Laws.{either, rule-holds, none-broken}
 use Rattle.answers.proofs.Rows.{_and_}
+use Rattle.sha1.specs.Sha1.{sha1}
+use Rattle.sha1.proofs.Laws.{length-sha1}
 use Rattle.aes.specs.Aes.{keyLength}
 use Rattle.aes.proofs.Keys.{key-lengths}
 use Rattle.descriptor.specs.Info.{suiteOf, suite}
 use Rattle.descriptor.proofs.Laws.{in-bytes, suites}
 use Rattle.password.specs.Key.{keyBytes}
 use Rattle.password.proofs.Laws.{length-keyBytes}
+use Rattle.blocks.proofs.Aes.{length-encrypted}
 use Rattle.sheet.specs.Sheet.{Left, left, reply, lacks}
 use Rattle.sheet.proofs.Laws.{ended-answer, ended-refused, ended-done}
-use Rattle.writer.specs.Written.{algIdOf, nameLimit, infoSize, writeRules, infoOf, written}
+use Rattle.writer.specs.Written.{algIdOf, nameLimit, infoSize, writeRules, hashField, infoOf, written}
 
 -- ---- the key sizes
 
@@ -100,6 +103,16 @@ newKey bits salt password = keyBytes (bits / 8) salt password
 pub key-fits : (bits : ℕ) (salt password : List ℕ) → OneOf (128 ∷ 192 ∷ 256 ∷ []) bits → keyLength (length (newKey bits salt password)) ≡ true
 key-fits bits salt password k =
     rw (length-keyBytes (bits / 8) salt password (omega (arith, key-size bits k .few))) (key-lengths (bits / 8) (in-bytes bits k))
+
+-- ---- the hash field
+
+-- the hash and its filling are two blocks, and so is the field
+pub hash-filled : (verifier filling : List ℕ) → length filling ≡ 12 → length (sha1 verifier ++ filling) ≡ 32
+hash-filled verifier filling l = simp (length-append, length-sha1, l)
+
+pub length-hash : (key verifier filling : List ℕ) → length filling ≡ 12 → length (hashField key verifier filling) ≡ 32
+unfolding hashField
+length-hash key verifier filling l = length-encrypted key (sha1 verifier ++ filling) ∙ rw (hash-filled verifier filling l)
 
 -- ---- the ways out
 
