@@ -33,7 +33,7 @@ static uint64_t timed(int call, size_t bits, size_t n, double best[CALLS])
     double from = now();
     switch (call) {
     case VERDICT: number = ropeshadow_verdict(info, INFO_SIZE, password, UNITS); break;
-    case SEAL: number = ropeshadow_seal(info, INFO_SIZE, password, UNITS, package, n, 0, 0, stream, sealed_size(n)); break;
+    case SEAL: number = ropeshadow_seal(info, INFO_SIZE, password, UNITS, package, n, 0, 0, 0, stream, sealed_size(n)); break;
     case ENCRYPT: number = bench_encrypt(key, bits / 8, package, n); break;
     case OPEN: number = ropeshadow_open(info, INFO_SIZE, password, UNITS, stream, sealed_size(n), package, n); break;
     case DECRYPT: number = bench_decrypt(key, bits / 8, stream + 8, n); break;

@@ -7,7 +7,7 @@
 #include <stdio.h>
 #include <stdlib.h>
 
-enum { LARGEST = 16 << 20, ROOM = LARGEST + 23 };
+enum { LARGEST = 16 << 20, ROOM = LARGEST + 24 };
 
 static struct manner openssl;
 static unsigned char info[INFO_SIZE];
@@ -36,12 +36,12 @@ static uint64_t open_openssl(const unsigned char *stream, size_t n, unsigned cha
 
 static uint64_t seal_ours(const unsigned char *package, size_t n, unsigned char *out)
 {
-    return ropeshadow_seal(info, INFO_SIZE, password, UNITS, package, n, 0, 0, out, n + 23);
+    return ropeshadow_seal(info, INFO_SIZE, password, UNITS, package, n, 0, 0, 0, out, n + 24);
 }
 
 static uint64_t seal_openssl(const unsigned char *package, size_t n, unsigned char *out)
 {
-    return openssl_seal(openssl.aes, info, package, n, filling, out, n + 23);
+    return openssl_seal(openssl.aes, info, package, n, filling, out, n + 24);
 }
 
 static void call(struct contest c, work *ours, work *by_openssl)
@@ -74,7 +74,7 @@ static void key_size(size_t bits, unsigned char *package, unsigned char *stream,
     static const size_t sizes[] = {1 << 10, 64 << 10, 1 << 20, LARGEST};
     for (int i = 0; i < 4; i++) {
         size_t n = sizes[i];
-        struct contest c = {.call = "seal", .bits = bits, .bytes = n, .in = package, .n = n, .out = stream, .room = n + 23};
+        struct contest c = {.call = "seal", .bits = bits, .bytes = n, .in = package, .n = n, .out = stream, .room = n + 24};
         call(c, seal_ours, seal_openssl);
         c = (struct contest){.call = "open", .bits = bits, .bytes = n, .in = stream, .n = n + 8, .out = out, .room = n + 8};
         call(c, open_ours, open_openssl);

@@ -42,7 +42,8 @@ enum {
     ROPESHADOW_PASSWORD_WRONG = 12,     /* the password does not match the verifier */
     ROPESHADOW_STREAM_SHORT = 13,       /* the package stream has fewer than 8 bytes */
     ROPESHADOW_STREAM_SIZE = 14,        /* the package has more than 268,435,456 bytes */
-    ROPESHADOW_STREAM_LENGTH = 15,      /* what follows StreamSize is not StreamSize rounded up to a multiple of 16 */
+    ROPESHADOW_STREAM_LENGTH = 15,      /* what follows StreamSize is not StreamSize rounded up to a multiple of 16, nor, where
+                                         * StreamSize is above 0 and a multiple of 4,096, that and an extra block of 16 bytes */
     ROPESHADOW_ROOM = 16,               /* `out` is too short */
     ROPESHADOW_MESSAGE_LONG = 18        /* a message to hash has more than 65,536 bytes */
 };
@@ -68,11 +69,13 @@ uint64_t ropeshadow_open(const uint8_t *info, size_t info_size, const uint16_t *
                          const uint8_t *stream, size_t stream_size, uint8_t *out, size_t room);
 
 /* A package as an EncryptedPackage stream under an existing EncryptionInfo to the front of out, zeros after it to the end of out.
- * The last block is filled with the first of the sixteen filling bytes, which should be random. The size is that of the whole
- * stream; a room of package_size + 23 bytes is always enough. Answers 0 to 12, 14, 16. */
+ * The last block is filled with the first of the sixteen filling bytes, which should be random. Where package_size is above 0 and a
+ * multiple of 4,096 nothing is left to fill, and some producers write an extra block there: `extra` 0 leaves it out, and any other number
+ * adds it, made of all sixteen filling bytes. At other sizes `extra` counts for nothing. The size is that of the whole stream; a room of
+ * package_size + 24 bytes is always enough. Answers 0 to 12, 14, 16. */
 uint64_t ropeshadow_seal(const uint8_t *info, size_t info_size, const uint16_t *password, size_t units,
                          const uint8_t *package, size_t package_size, uint64_t filling_low, uint64_t filling_high,
-                         uint8_t *out, size_t room);
+                         uint64_t extra, uint8_t *out, size_t room);
 
 /* A new EncryptionInfo stream, version 3.2, for a key of 128, 192 or 256 bits and a password to the front of out, zeros after it to
  * the end of out. The name is that of the provider, as bytes of UTF-16LE, and is written as given: it usually ends with a zero unit,

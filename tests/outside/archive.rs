@@ -13,7 +13,7 @@ extern "C" {
     fn ropeshadow_open(info: *const u8, info_size: usize, password: *const u16, units: usize,
                        stream: *const u8, stream_size: usize, out: *mut u8, room: usize) -> u64;
     fn ropeshadow_seal(info: *const u8, info_size: usize, password: *const u16, units: usize,
-                       package: *const u8, package_size: usize, low: u64, high: u64, out: *mut u8, room: usize) -> u64;
+                       package: *const u8, package_size: usize, low: u64, high: u64, extra: u64, out: *mut u8, room: usize) -> u64;
     fn ropeshadow_write_info(bits: u64, password: *const u16, units: usize, name: *const u8, name_size: usize,
                              salt_low: u64, salt_high: u64, verifier_low: u64, verifier_high: u64,
                              filling_low: u64, filling_high: u64, out: *mut u8, room: usize) -> u64;
@@ -39,7 +39,7 @@ pub enum Call {
     Parse { info: Vec<u8> },
     Verdict { info: Vec<u8>, password: Vec<u16> },
     Open { info: Vec<u8>, password: Vec<u16>, stream: Vec<u8>, room: usize },
-    Seal { info: Vec<u8>, password: Vec<u16>, package: Vec<u8>, filling: [u8; 16], room: usize },
+    Seal { info: Vec<u8>, password: Vec<u16>, package: Vec<u8>, filling: [u8; 16], extra: u64, room: usize },
     Write(Writing),
 }
 
@@ -68,6 +68,11 @@ impl Call {
             Call::Verdict { .. } => 0,
             Call::Open { room, .. } | Call::Seal { room, .. } | Call::Write(Writing { room, .. }) => *room,
         }
+    }
+
+    /// Whether the returned number has a size.
+    fn sized(&self) -> bool {
+        matches!(self, Call::Open { .. } | Call::Seal { .. } | Call::Write(_))
     }
 
     /// Whether a call that is answered so has derived a key.
@@ -99,9 +104,9 @@ impl Call {
                 Call::Open { info: i, password: p, stream: s, room } => {
                     ropeshadow_open(i.as_ptr(), i.len(), p.as_ptr(), p.len(), s.as_ptr(), s.len(), out, *room)
                 }
-                Call::Seal { info: i, password: p, package: s, filling, room } => {
+                Call::Seal { info: i, password: p, package: s, filling, extra, room } => {
                     let (low, high) = halves(filling);
-                    ropeshadow_seal(i.as_ptr(), i.len(), p.as_ptr(), p.len(), s.as_ptr(), s.len(), low, high, out, *room)
+                    ropeshadow_seal(i.as_ptr(), i.len(), p.as_ptr(), p.len(), s.as_ptr(), s.len(), low, high, *extra, out, *room)
                 }
                 Call::Write(Writing { bits, password: p, name: n, salt, verifier, filling, room }) => {
                     let [s, v, f] = [salt, verifier, filling].map(halves);
@@ -112,8 +117,17 @@ impl Call {
         Outcome { word, memory }
     }
 
+    /// `out` after a call of the archive that is done and fills it, or the answer.
+    pub fn filled(&self) -> Result<Vec<u8>, String> {
+        let (got, room) = (self.by_archive(), self.room());
+        if got.word == if self.sized() { 65_536 * room as u64 } else { 0 } {
+            Ok(got.memory[GUARD..GUARD + room].to_vec())
+        } else {
+            Err(format!("answer {} size {}, and not a room of {room} bytes filled", got.word % 65_536, got.word / 65_536))
+        }
+    }
+
     pub fn by_second(&self) -> Outcome {
-        let sized = matches!(self, Call::Open { .. } | Call::Seal { .. } | Call::Write(_));
         let written = match self {
             Call::Sha1 { message } if message.len() > 65_536 => Err(18),
             Call::Sha1 { message } => Ok(sha1::sha1(message).to_vec()),
@@ -122,7 +136,9 @@ impl Call {
             Call::Parse { info } => descriptor::parse(info).map(|d| d.bytes()),
             Call::Verdict { info, password } => key::unlock(info, password).map(|_| vec![]),
             Call::Open { info, password, stream, room } => package::open(info, password, stream, *room),
-            Call::Seal { info, password, package, filling, room } => package::seal(info, password, package, *filling, *room),
+            Call::Seal { info, password, package, filling, extra, room } => {
+                package::seal(info, password, package, *filling, *extra != 0, *room)
+            }
             Call::Write(w) => {
                 let filling = *w.filling.first_chunk().unwrap();
                 writer::write_info(w.bits, &w.password, &w.name, w.salt, w.verifier, filling, w.room)
@@ -134,7 +150,7 @@ impl Call {
             Ok(bytes) => {
                 memory[GUARD..GUARD + self.room()].fill(0);
                 memory[GUARD..GUARD + bytes.len()].copy_from_slice(&bytes);
-                if sized { 65_536 * bytes.len() as u64 } else { 0 }
+                if self.sized() { 65_536 * bytes.len() as u64 } else { 0 }
             }
         };
         Outcome { word, memory }

@@ -2,8 +2,9 @@
  * written beside it, and `out` is held to what the header says: untouched on a refusal, zeros after the written part.
  *
  * An input's first byte chooses the function, its next ones the lengths. Two of the functions take a published descriptor with its
- * password (000, section 8), so that what lies behind the right password is reached by every stream. The writer's name stands where
- * others have EncryptionInfo, and its seven numbers at the end.
+ * password (000, section 8), so that what lies behind the right password is reached by every stream. Sealing so takes the filling and
+ * the choice of an extra block from the lengths that it has no other use for. The writer's name stands where others have
+ * EncryptionInfo, and its seven numbers at the end.
  *
  * With -DONLY=0 every input goes to the parser, which is a thousand times faster than what derives a key. With -DREPLAY it is a
  * program that runs the inputs named on its command line.
@@ -85,6 +86,15 @@ static uint64_t written(const uint16_t *password, size_t units, const uint8_t *n
     }
 }
 
+/* Seals a package; the size, and the room that is asked for, are those of the blocks and of StreamSize. */
+static uint64_t sealed(const uint8_t *info, size_t info_size, const uint16_t *password, size_t units, const uint8_t *package, size_t size,
+                       uint64_t low, uint64_t high, uint64_t extra, uint8_t *out, size_t room) {
+    size_t whole = 8 + (size + 15) / 16 * 16 + (extra != 0 && size != 0 && size % 4096 == 0 ? 16 : 0);
+    uint64_t word = ropeshadow_seal(info, info_size, password, units, package, size, low, high, extra, out, room);
+    if (word != (room < whole ? (uint64_t)ROPESHADOW_ROOM : 65536 * (uint64_t)whole)) abort();
+    return word;
+}
+
 int LLVMFuzzerTestOneInput(const uint8_t *data, size_t left) {
     static int first = 1;
     if (first) atexit(report);
@@ -111,7 +121,8 @@ int LLVMFuzzerTestOneInput(const uint8_t *data, size_t left) {
 
     uint64_t word;
     if (f == PARSE) word = ropeshadow_parse(info, size, out);
-    else if (f == SEAL_UNLOCKED) word = ropeshadow_seal(info, size, password, password_size / 2, stream, left, units, info_size, out, room);
+    else if (f == SEAL_UNLOCKED)
+        word = sealed(info, size, password, password_size / 2, stream, left, units, info_size % 256, info_size / 256, out, room);
     else if (f == WRITE) word = written(password, password_size / 2, info, size, stream, left, out, room);
     else word = ropeshadow_open(info, size, password, password_size / 2, stream, left, out, room);
     judge(f, word, out, room, f == PARSE ? 84 : ROPESHADOW_SIZE(word));

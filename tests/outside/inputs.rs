@@ -29,6 +29,11 @@ impl Random {
     pub fn units(&mut self, n: usize) -> Vec<u16> {
         (0..n).map(|_| self.next() as u16).collect()
     }
+
+    /// The choice of an extra block: none, or a number with bits at its low end, its high end or anywhere.
+    pub fn choice(&mut self) -> u64 {
+        [0, 1, self.next() << 32, self.next()][self.below(4)]
+    }
 }
 
 /// A descriptor with the password that it is for.
@@ -36,6 +41,17 @@ pub struct Lock {
     pub info: Vec<u8>,
     pub password: Vec<u16>,
     pub aes: Aes,
+}
+
+impl Lock {
+    pub fn open(&self, stream: &[u8], room: usize) -> Call {
+        Call::Open { info: self.info.clone(), password: self.password.clone(), stream: stream.to_vec(), room }
+    }
+
+    pub fn seal(&self, package: &[u8], filling: [u8; 16], extra: u64, room: usize) -> Call {
+        let (info, password, package) = (self.info.clone(), self.password.clone(), package.to_vec());
+        Call::Seal { info, password, package, filling, extra, room }
+    }
 }
 
 const ALGORITHMS: [(u32, u32); 3] = [(0x660e, 128), (0x660f, 192), (0x6610, 256)];
@@ -73,7 +89,7 @@ pub struct Case {
 pub struct Cases {
     pub list: Vec<Case>,
     pub r: Random,
-    locks: Vec<Lock>,
+    pub locks: Vec<Lock>,
 }
 
 /// The places of EncryptionInfo's four-byte numbers where HeaderSize is 140, and the values around each limit.
@@ -120,6 +136,12 @@ fn broken(o: &mut Opening, rule: u16) {
     }
 }
 
+/// Just enough room, one byte less where there is such a room, and more; with the answers.
+pub fn rooms(least: usize) -> impl Iterator<Item = (usize, u16)> {
+    let less = least.checked_sub(1).map(|room| (room, 16));
+    [(least, 0), (least + 37, 0)].into_iter().chain(less)
+}
+
 impl Cases {
     pub fn new(seed: u64) -> Cases {
         let mut r = Random(seed);
@@ -136,6 +158,7 @@ impl Cases {
         cases.packages();
         cases.streams();
         cases.random();
+        cases.extra_blocks();
         cases.writes();
         cases
     }
@@ -194,7 +217,7 @@ impl Cases {
         let package = self.r.bytes(33);
         for size in 0..3 {
             let (info, password) = (self.locks[size].info.clone(), self.locks[size].password.clone());
-            let stream = sealed(&self.locks[size].aes, &package, filling);
+            let stream = sealed(&self.locks[size].aes, &package, filling, false);
             for at in 0..info.len() {
                 let turned = |bits: u8| {
                     let mut info = info.clone();
@@ -209,7 +232,7 @@ impl Cases {
                 let call = match (at + size) % 3 {
                     0 => Call::Verdict { info, password },
                     1 => Call::Open { info, password, stream, room: 40 },
-                    _ => Call::Seal { info, password, package, filling, room: 60 },
+                    _ => Call::Seal { info, password, package, filling, extra: self.r.choice(), room: 60 },
                 };
                 self.add("each byte of the descriptor changed", call);
             }
@@ -253,7 +276,8 @@ impl Cases {
             let package = self.r.bytes(17);
             let filling = self.r.sixteen();
             let l = &self.locks[size];
-            let valid = Opening { info: l.info.clone(), password: l.password.clone(), stream: sealed(&l.aes, &package, filling), room: 17 };
+            let stream = sealed(&l.aes, &package, filling, false);
+            let valid = Opening { info: l.info.clone(), password: l.password.clone(), stream, room: 17 };
             for first in 1..=16 {
                 for second in first..=16 {
                     let mut o = valid.clone();
@@ -262,15 +286,14 @@ impl Cases {
                     if first != second {
                         broken(&mut o, first);
                     }
-                    let (info, password) = (o.info.clone(), o.password.clone());
                     if second <= 12 {
-                        let call =
-                            Call::Seal { info: info.clone(), password: password.clone(), package: package.clone(), filling, room: 39 };
+                        let (info, password, package, extra) = (o.info.clone(), o.password.clone(), package.clone(), self.r.choice());
+                        let call = Call::Seal { info, password, package, filling, extra, room: 39 };
                         self.list.push(Case { group: "two rules broken", call, answer: Some(first) });
-                        let call = Call::Verdict { info: info.clone(), password: password.clone() };
+                        let call = Call::Verdict { info: o.info.clone(), password: o.password.clone() };
                         self.list.push(Case { group: "two rules broken", call, answer: Some(first) });
                     }
-                    let call = Call::Open { info, password, stream: o.stream, room: o.room };
+                    let call = Call::Open { info: o.info, password: o.password, stream: o.stream, room: o.room };
                     self.list.push(Case { group: "two rules broken", call, answer: Some(first) });
                 }
             }
@@ -296,51 +319,42 @@ impl Cases {
 
     /// Each length of a package, sealed and opened: with just enough room, with one byte less and with more.
     fn packages(&mut self) {
-        let rooms = |least: usize| [(Some(least), 0), (least.checked_sub(1), 16), (Some(least + 37), 0)];
         for size in 0..3 {
             for n in (0..=100).chain(4_093..=4_099).chain(65_533..=65_539) {
-                let (package, filling) = (self.r.bytes(n), self.r.sixteen());
+                let (package, filling, extra) = (self.r.bytes(n), self.r.sixteen(), self.r.choice());
                 let l = &self.locks[size];
-                let stream = sealed(&l.aes, &package, filling);
+                let stream = sealed(&l.aes, &package, filling, extra != 0);
                 for (room, answer) in rooms(stream.len()) {
-                    let (info, password, package, room) = (l.info.clone(), l.password.clone(), package.clone(), room.unwrap());
-                    let call = Call::Seal { info, password, package, filling, room };
+                    let call = l.seal(&package, filling, extra, room);
                     self.list.push(Case { group: "sealed, each length", call, answer: Some(answer) });
                 }
                 for (room, answer) in rooms(n) {
-                    let Some(room) = room else { continue };
-                    let (info, password, stream) = (l.info.clone(), l.password.clone(), stream.clone());
-                    let call = Call::Open { info, password, stream, room };
+                    let call = l.open(&stream, room);
                     self.list.push(Case { group: "opened, each length", call, answer: Some(answer) });
                 }
             }
         }
     }
 
-    fn open(&mut self, group: &'static str, size: usize, stream: Vec<u8>, room: usize) {
-        let (info, password) = (self.locks[size].info.clone(), self.locks[size].password.clone());
-        self.add(group, Call::Open { info, password, stream, room });
-    }
-
     /// Streams that are cut, too long, of another StreamSize, or with a byte changed.
     fn streams(&mut self) {
         for (size, n) in [(0, 0), (0, 33), (1, 16), (1, 79), (2, 31), (2, 48)] {
             let (package, filling) = (self.r.bytes(n), self.r.sixteen());
-            let stream = sealed(&self.locks[size].aes, &package, filling);
+            let stream = sealed(&self.locks[size].aes, &package, filling, false);
             let longer = [&stream[..], &self.r.bytes(17)].concat();
             for cut in 0..=longer.len() {
-                self.open("stream, each length", size, longer[..cut].to_vec(), 96);
+                self.add("stream, each length", self.locks[size].open(&longer[..cut], 96));
             }
             let around = [n as u64 + 1, (n as u64).wrapping_sub(1), n as u64 + 16, (n as u64).wrapping_sub(16)];
             let high = [8, 16, 24, 28, 29, 32, 40, 48, 56, 63].map(|shift| n as u64 + (1 << shift));
             for told in around.into_iter().chain(high).chain([268_435_456, 268_435_457, u64::MAX]) {
                 let changed = [&told.to_le_bytes()[..], &stream[8..]].concat();
-                self.open("stream, another StreamSize", size, changed, 96);
+                self.add("stream, another StreamSize", self.locks[size].open(&changed, 96));
             }
             for at in 0..stream.len() {
                 let mut changed = stream.clone();
                 changed[at] ^= 1 << self.r.below(8);
-                self.open("stream, each byte changed", size, changed, 96);
+                self.add("stream, each byte changed", self.locks[size].open(&changed, 96));
             }
         }
     }
@@ -364,8 +378,8 @@ impl Cases {
                 password = self.r.units(n);
             }
             let (n, room) = (self.r.below(400), self.r.below(600));
-            let (package, filling) = (self.r.bytes(n), self.r.sixteen());
-            let mut stream = sealed(&self.locks[size].aes, &package, filling);
+            let (package, filling, extra) = (self.r.bytes(n), self.r.sixteen(), self.r.choice());
+            let mut stream = sealed(&self.locks[size].aes, &package, filling, extra != 0);
             if self.r.below(4) == 0 {
                 let n = self.r.below(64);
                 stream = self.r.bytes(n);
@@ -375,7 +389,7 @@ impl Cases {
                 if turn % 2 == 0 {
                     Call::Open { info, password, stream, room }
                 } else {
-                    Call::Seal { info, password, package, filling, room }
+                    Call::Seal { info, password, package, filling, extra, room }
                 },
             );
         }

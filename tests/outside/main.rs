@@ -2,11 +2,12 @@
 //!
 //!     calls [SEED [CALL]]     all calls, or one of them with its inputs shown
 mod archive;
+mod extra;
 mod inputs;
 mod writes;
 
-use archive::{Call, GUARD};
-use inputs::{Case, Cases, Random, lock};
+use archive::GUARD;
+use inputs::{Case, Cases, Lock, Random, lock};
 use std::{collections::BTreeMap, env, process};
 
 /// The answer of a call that comes out the same both ways, or what is wrong with it.
@@ -31,35 +32,39 @@ fn compared(case: &Case) -> Result<u16, String> {
     Ok(answer)
 }
 
-/// The largest package there is, sealed and opened, and one byte more. The second implementation checks every 509th block.
-fn largest(seed: u64) -> Result<u64, String> {
-    const LIMIT: usize = 268_435_456;
-    let mut r = Random(seed);
-    let l = lock(&mut r, 2, "the largest".encode_utf16().collect());
-    let (info, password) = (l.info, l.password);
-    let mut package: Vec<u8> = (0..LIMIT / 8).flat_map(|_| r.next().to_le_bytes()).collect();
-    let filling = r.sixteen();
-    let sealed = Call::Seal { info: info.clone(), password: password.clone(), package: package.clone(), filling, room: LIMIT + 8 };
-    let got = sealed.by_archive();
-    let stream = got.memory[GUARD..GUARD + LIMIT + 8].to_vec();
-    let as_told = got.word == 65_536 * (LIMIT as u64 + 8) && stream[..8] == (LIMIT as u64).to_le_bytes();
-    let block = |bytes: &[u8], i: usize| -> [u8; 16] { bytes[16 * i..16 * i + 16].try_into().unwrap() };
-    if !as_told || (0..LIMIT / 16).step_by(509).any(|i| l.aes.encrypt(block(&package, i)) != block(&stream[8..], i)) {
+const LIMIT: usize = 268_435_456;
+
+/// The stream of the largest package, sealed with that choice and opened. The second implementation checks every 509th block and, where
+/// there is one, the extra block.
+fn there_and_back(l: &Lock, package: &[u8], filling: [u8; 16], extra: bool) -> Result<Vec<u8>, String> {
+    let blocks = LIMIT / 16 + usize::from(extra);
+    let stream = l.seal(package, filling, u64::from(extra), 8 + 16 * blocks).filled()?;
+    let plain = |i: usize| if i < LIMIT / 16 { package[16 * i..16 * i + 16].try_into().unwrap() } else { filling };
+    let right = |i: usize| stream[8 + 16 * i..24 + 16 * i] == l.aes.encrypt(plain(i));
+    if stream[..8] != (LIMIT as u64).to_le_bytes() || !(0..LIMIT / 16).step_by(509).chain(LIMIT / 16..blocks).all(right) {
         return Err("the largest package is not sealed".to_string());
     }
-    let opened = Call::Open { info: info.clone(), password: password.clone(), stream: stream.clone(), room: LIMIT }.by_archive();
-    if opened.word != 65_536 * LIMIT as u64 || opened.memory[GUARD..GUARD + LIMIT] != package {
+    if l.open(&stream, LIMIT).filled()? != package {
         return Err("the largest package is not opened".to_string());
     }
-    package.push(0);
-    let mut longer = [&stream[..], &[0; 16]].concat();
+    Ok(stream)
+}
+
+/// The largest package there is, without an extra block and with it, and one byte more.
+fn largest(seed: u64) -> Result<u64, String> {
+    let mut r = Random(seed);
+    let l = lock(&mut r, 2, "the largest".encode_utf16().collect());
+    let mut package: Vec<u8> = (0..LIMIT / 8).flat_map(|_| r.next().to_le_bytes()).collect();
+    let filling = r.sixteen();
+    there_and_back(&l, &package, filling, false)?;
+    // with the extra block a stream has as many bytes as one of a byte more
+    let mut longer = there_and_back(&l, &package, filling, true)?;
     longer[0] = 1;
-    let seal = Call::Seal { info: info.clone(), password: password.clone(), package, filling, room: 24 };
-    let open = Call::Open { info, password, stream: longer, room: 24 };
-    for call in [seal, open] {
+    package.push(0);
+    for call in [l.seal(&package, filling, 0, 24), l.seal(&package, filling, 1, 24), l.open(&longer, 24)] {
         compared(&Case { group: "the largest", call, answer: Some(14) })?;
     }
-    Ok(4)
+    Ok(7)
 }
 
 fn main() {
@@ -91,7 +96,7 @@ fn main() {
             }
         }
     }
-    for followed in [largest(seed), writes::taken_up(seed)] {
+    for followed in [largest(seed), extra::both_streams(seed), writes::taken_up(seed)] {
         match followed {
             Ok(calls) => passed += calls,
             Err(what) => {

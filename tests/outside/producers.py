@@ -1,7 +1,7 @@
 """Real producers: what Apache POI and LibreOffice lock is opened byte for byte, by the library and by the examples, and what the
 library seals, under their descriptors and under those that it writes itself, is opened by msoffcrypto-tool, Apache POI and LibreOffice.
     producers.py EXAMPLES    the folder with the compiled examples unlock-c and unlock-rs; the shared library is target/lib's"""
-import ctypes, io, os, pathlib, pty, random, select, subprocess, sys, tempfile
+import ctypes, io, os, pathlib, pty, random, select, subprocess, sys, tempfile, zipfile
 from collections import Counter
 from importlib.metadata import version
 import olefile, openpyxl
@@ -18,7 +18,7 @@ PROVIDER = "Microsoft Enhanced RSA and AES Cryptographic Provider\0"
 NAMES = {"no name": "", "a name that is a zero unit": "\0", "a name of 4,064 bytes": "n" * 2031 + "\0",
          "a name without a zero unit": PROVIDER[:-1], "a name with a zero unit within": "one\0two\0"}
 BITS = (128, 192, 256)
-SIZES = [0, 1, 15, 16, 17, 31, 32, 33, 4095, 4096, 4097, 65535, 65536, 65537]
+SIZES = [0, 1, 15, 16, 17, 31, 32, 33, 4080, 4095, 4096, 4097, 8192, 65535, 65536, 65537]
 passed = failed = 0
 
 def check(what, holds):
@@ -56,16 +56,26 @@ def compound(path, info, stream):
             pathlib.Path(folder, name).write_bytes(contents)
         subprocess.run(["gsf", "createole", str(path), f"{folder}/EncryptionInfo", f"{folder}/EncryptedPackage"], check=True, capture_output=True)
 
-def sealed(info, password, package):
+def extra_block(size):
+    """Whether a package of that size may have an extra block (2026-02)."""
+    return size > 0 and size % 4096 == 0
+
+def sealed(info, password, package, extra=0):
     """The whole stream by the library, with a filling that shows if it is looked at."""
-    units, room = password.encode("utf-16-le"), len(package) + 23
+    units, size = password.encode("utf-16-le"), len(package)
     seal = unlock.library().ropeshadow_seal
-    seal.argtypes = [ctypes.c_char_p, ctypes.c_size_t] * 3 + [ctypes.c_uint64] * 2 + [ctypes.c_void_p, ctypes.c_size_t]
+    seal.argtypes = [ctypes.c_char_p, ctypes.c_size_t] * 3 + [ctypes.c_uint64] * 3 + [ctypes.c_void_p, ctypes.c_size_t]
     seal.restype = ctypes.c_uint64
-    out = ctypes.create_string_buffer(room)
-    word = seal(info, len(info), units, len(units) // 2, package, len(package), 0x0807060504030201, 0x100f0e0d0c0b0a09, out, room)
-    check("sealed with answer 0", word % 65536 == 0)
+    out = ctypes.create_string_buffer(size + 24)
+    word = seal(info, len(info), units, len(units) // 2, package, size, 0x0807060504030201, 0x100f0e0d0c0b0a09, extra, out, size + 24)
+    check("sealed", word == 65536 * (8 + -(-size // 16) * 16 + (16 if extra and extra_block(size) else 0)))
     return out.raw[:word // 65536]
+
+def both_sealed(info, password, package):
+    """The package's streams, with what to call them: without an extra block and, where it may have one, with it."""
+    yield "sealed", sealed(info, password, package)
+    if extra_block(len(package)):
+        yield "sealed with an extra block", sealed(info, password, package, 1)
 
 def written(bits, password, name):
     """A new EncryptionInfo by the library, its salt, verifier and filling random."""
@@ -105,6 +115,19 @@ def uneven(path):
             return path.read_bytes()
         rows += 1
 
+def even(path):
+    """A workbook whose size is a multiple of 4,096: its parts are not compressed, and one ends with as many blanks as that takes."""
+    workbook(path, 200)
+    with zipfile.ZipFile(path) as archive:
+        parts = {name: archive.read(name) for name in archive.namelist()}
+    def stored():
+        with zipfile.ZipFile(path, "w") as archive:
+            for name, contents in parts.items():
+                archive.writestr(name, contents)
+        return path.read_bytes()
+    parts["xl/workbook.xml"] += b" " * (-len(stored()) % 4096)
+    return stored()
+
 def poi(folder, worker):
     """What Apache POI locks, of each size and key size and with each password; returns a workbook that it locked."""
     plain, locked, opened = folder / "plain", folder / "poi.xlsx", folder / "opened"
@@ -116,17 +139,17 @@ def poi(folder, worker):
         check(f"{what}: locked", worker.ask("lock", bits, password, plain, locked) == "done")
         info, stream = streams(locked)
         check(f"{what}: as the library writes it", fixed(info) == fixed(written(bits, password, PROVIDER)))
-        # at a multiple of 16 POI adds a whole block of filling, and 01 answers 15; without that block the stream is one of 01's
+        # at a multiple of 16 POI adds a whole block of filling, which no. 15 allows as an extra block alone; without it the stream is one of 01's
         whole = n % 16 == 0
-        check(f"{what}: opened", unlock.opened(info, password, stream) == ((15, b"") if whole else (0, package)))
+        check(f"{what}: opened", unlock.opened(info, password, stream) == ((15, b"") if whole and not extra_block(n) else (0, package)))
         check(f"{what}: cut", unlock.opened(info, password, stream[:-16] if whole else stream) == (0, package))
         check(f"{what}: opened by msoffcrypto-tool", by_msoffcrypto(info, password, stream) == package)
         check(f"{what}: opened by POI", worker.ask("open", password, locked, opened) == "done" and opened.read_bytes() == package)
         check(f"{what}: another password", unlock.opened(info, password + "?", stream)[0] == (11 if len(password) == 255 else 12))
-        again = sealed(info, password, package)
-        check(f"{what}: sealed, opened by msoffcrypto-tool", by_msoffcrypto(info, password, again) == package)
-        compound(locked, info, again)
-        check(f"{what}: sealed, opened by POI", worker.ask("open", password, locked, opened) == "done" and opened.read_bytes() == package)
+        for how, again in both_sealed(info, password, package):
+            check(f"{what}: {how}, opened by msoffcrypto-tool", by_msoffcrypto(info, password, again) == package)
+            compound(locked, info, again)
+            check(f"{what}: {how}, opened by POI", worker.ask("open", password, locked, opened) == "done" and opened.read_bytes() == package)
     check("POI: 256 units", worker.ask("lock", 128, "z" * 256, plain, locked) == "done" and unlock.opened(streams(locked)[0], "z" * 256, b"")[0] == 11)
     book = folder / "by-poi.xlsx"
     package = uneven(plain)
@@ -164,14 +187,15 @@ def anew(folder, java):
     for bits, password, n in [(b, PASSWORDS[0], n) for b in BITS for n in SIZES] + [(b, p, 1001) for b in BITS for p in PASSWORDS]:
         what = f"locked from nothing, {bits} bits, {n} bytes, {len(password)} characters"
         package, info, other = random.randbytes(n), written(bits, password, PROVIDER), password + "?"
-        stream = sealed(info, password, package)
-        check(f"{what}: opened", unlock.opened(info, password, stream) == (0, package))
-        check(f"{what}: another password", unlock.opened(info, other, stream)[0] == (11 if len(password) == 255 else 12))
-        check(f"{what}: opened by msoffcrypto-tool", by_msoffcrypto(info, password, stream) == package)
-        check(f"{what}: another password, msoffcrypto-tool", by_msoffcrypto(info, other, stream) is None)
-        compound(locked, info, stream)
-        check(f"{what}: opened by POI", java.ask("open", password, locked, opened) == "done" and opened.read_bytes() == package)
-        check(f"{what}: another password, POI", "wrong password" in java.ask("open", other, locked, opened))
+        for how, stream in both_sealed(info, password, package):
+            case = f"{what}, {how}"
+            check(f"{case}: opened", unlock.opened(info, password, stream) == (0, package))
+            check(f"{case}: another password", unlock.opened(info, other, stream)[0] == (11 if len(password) == 255 else 12))
+            check(f"{case}: opened by msoffcrypto-tool", by_msoffcrypto(info, password, stream) == package)
+            check(f"{case}: another password, msoffcrypto-tool", by_msoffcrypto(info, other, stream) is None)
+            compound(locked, info, stream)
+            check(f"{case}: opened by POI", java.ask("open", password, locked, opened) == "done" and opened.read_bytes() == package)
+            check(f"{case}: another password, POI", "wrong password" in java.ask("open", other, locked, opened))
 
 def openers(folder, java, office, book, password, package):
     """Who opens a workbook: byte for byte, LibreOffice by the text of its first cell."""
@@ -218,6 +242,25 @@ def anew_workbooks(folder, java, office):
                 same = (office.ask("read", password, theirs) == "seat 0") == ("LibreOffice" in who)
                 check(f"{case}: opened by LibreOffice just where POI's own is", same)
         said(f"  locked from nothing, {what}, {len(passwords)} tried: " + ", ".join(f"{who} opens {n}" for who, n in sorted(seen.items())))
+
+def extra_workbooks(folder, java, office):
+    """A workbook of a multiple of 4,096 bytes: opened as POI locks it, and locked from nothing with an extra block and without; who
+    opens it is said."""
+    plain, book, password = folder / "plain.xlsx", folder / "even.xlsx", PASSWORDS[0]
+    package = even(plain)
+    for bits in BITS:
+        what = f"workbook of {len(package)} bytes, {bits} bits"
+        check(f"{what}: locked by POI", java.ask("lock", bits, password, plain, book) == "done")
+        check(f"{what}: POI's opened", unlock.opened(streams(book)[0], password, streams(book)[1]) == (0, package))
+        said(f"  {what}, locked by POI: opened by " + ", ".join(sorted(openers(folder, java, office, book, password, package))))
+        info = written(bits, password, PROVIDER)
+        for how, stream in both_sealed(info, password, package):
+            compound(book, info, stream)
+            check(f"{what}, {how}: opened", unlock.opened(info, password, stream) == (0, package))
+            who = openers(folder, java, office, book, password, package)
+            for one in asked(office, bits, password, PROVIDER):
+                check(f"{what}, {how}: opened by {one}", one in who)
+            said(f"  {what}, {how}: opened by " + ", ".join(sorted(who)))
 
 def command(folder, book, password):
     """msoffcrypto-tool's own command on a workbook that the library sealed under the descriptor of another."""
@@ -316,6 +359,7 @@ def main():
             said("LibreOffice: skipped, it is not installed")
         anew(folder, java)
         anew_workbooks(folder, java, office)
+        extra_workbooks(folder, java, office)
         for worker in filter(None, (java, office)):
             worker.close()
         for book, package in books:

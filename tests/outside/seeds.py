@@ -13,6 +13,10 @@ def given(function, password, info, room, stream):
     units, more = password.encode("utf-16-le"), len(password) > 255
     return bytes([function + 128 * more, len(units) // 2 - 128 * more]) + struct.pack("<HH", len(info), room) + units + info + stream
 
+def sealing(size, extra, room):
+    """The choice of an extra block stands where others have the high byte of EncryptionInfo's length."""
+    return bytes([3, 0, 0, extra]) + struct.pack("<H", room) + bytes(size)
+
 def writing(bits, name, room, password="password"):
     return given(4, password, bytes(name), room, struct.pack("<7Q", bits, *range(6)))
 
@@ -23,7 +27,11 @@ def main():
     for size in (0, 1, 16, 17, 100):
         stream = struct.pack("<Q", size) + bytes(-(-size // 16) * 16)
         seeds += [given(1, "password", INFO, size, stream), given(1, "password", named(108, 2), size + 9, stream)]
-        seeds += [given(2, "", b"", size, stream), given(2, "", b"", size + 30, stream), given(3, "", b"", size + 23, bytes(size))]
+        seeds += [given(2, "", b"", size, stream), given(2, "", b"", size + 30, stream), sealing(size, 0, size + 23)]
+    for size in (16, 4096, 8192):
+        stream = struct.pack("<Q", size) + bytes(size + 16)
+        seeds += [given(2, "", b"", size, stream), given(2, "", b"", size, stream + bytes(16)), given(2, "", b"", size - 1, stream)]
+        seeds += [sealing(size, 0, size + 8), sealing(size, 1, size + 24), sealing(size, 128, size + 23)]
     seeds += [given(1, "wrong", INFO, 16, bytes(8)), given(1, "x" * 255, INFO, 16, bytes(8)), given(2, "", b"", 64, bytes(3))]
     seeds += [writing(bits, 108, 224) for bits in (128, 192, 256, 127, 1 << 32 | 128)]
     seeds += [writing(128, name, name + 120) for name in (0, 107, 4064, 4065, 4066)]

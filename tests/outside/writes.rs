@@ -1,5 +1,5 @@
 //! What the writer of EncryptionInfo is called with, and what it writes, taken up by the other calls.
-use crate::archive::{Call, GUARD, Writing};
+use crate::archive::{Call, Writing};
 use crate::inputs::{Case, Cases, Random};
 use second::descriptor::Descriptor;
 
@@ -120,16 +120,6 @@ impl Cases {
     }
 }
 
-/// `out` after a call of the archive that is done and fills it, or the call.
-fn filled(call: Call, sized: bool) -> Result<Vec<u8>, String> {
-    let (got, room) = (call.by_archive(), call.room());
-    if got.word == if sized { 65_536 * room as u64 } else { 0 } {
-        Ok(got.memory[GUARD..GUARD + room].to_vec())
-    } else {
-        Err(format!("answer {} size {} of {call:02x?}", got.word % 65_536, got.word / 65_536))
-    }
-}
-
 /// The descriptor that a parse of what was written gives, in which the encrypted fields are those of the stream.
 fn described(w: &Writing, info: &[u8]) -> Vec<u8> {
     let part = |from_end: usize| &info[info.len() - from_end..];
@@ -141,16 +131,16 @@ fn described(w: &Writing, info: &[u8]) -> Vec<u8> {
 
 /// Written, parsed, judged, sealed under and opened.
 fn followed(w: Writing, package: Vec<u8>, filling: [u8; 16]) -> Result<(), String> {
-    let info = filled(Call::Write(w.clone()), true)?;
-    if filled(Call::Parse { info: info.clone() }, false)? != described(&w, &info) {
+    let info = Call::Write(w.clone()).filled()?;
+    if (Call::Parse { info: info.clone() }).filled()? != described(&w, &info) {
         return Err(format!("another descriptor than was written, of {w:02x?}"));
     }
     let password = w.password;
-    filled(Call::Verdict { info: info.clone(), password: password.clone() }, false)?;
+    Call::Verdict { info: info.clone(), password: password.clone() }.filled()?;
     let (room, size) = (8 + package.len().next_multiple_of(16), package.len());
-    let seal = Call::Seal { info: info.clone(), password: password.clone(), package: package.clone(), filling, room };
-    let stream = filled(seal, true)?;
-    let opened = filled(Call::Open { info, password, stream, room: size }, true)?;
+    let seal = Call::Seal { info: info.clone(), password: password.clone(), package: package.clone(), filling, extra: 0, room };
+    let stream = seal.filled()?;
+    let opened = Call::Open { info, password, stream, room: size }.filled()?;
     if opened == package { Ok(()) } else { Err("another package than was sealed under what was written".to_string()) }
 }
 

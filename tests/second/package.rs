@@ -1,7 +1,14 @@
-//! The package stream (01, "The package stream"; replies 13 to 16), on whole vectors: what is written, or the reply.
+//! The package stream (01, "The package stream", with the extra block of request 2026-02; replies 13 to 16), on whole vectors: what is
+//! written, or the reply.
 use crate::{aes::Aes, key::unlock};
 
 const LIMIT: u64 = 268_435_456;
+
+/// How long the ciphertext of a package of so many bytes is, without an extra block and with it: the same where it has none.
+fn lengths(size: usize) -> [usize; 2] {
+    let least = size.next_multiple_of(16);
+    if size > 0 && size % 4_096 == 0 { [least, least + 16] } else { [least, least] }
+}
 
 fn each_block(bytes: &[u8], turn: impl Fn([u8; 16]) -> [u8; 16]) -> Vec<u8> {
     bytes.chunks(16).flat_map(|c| turn(c.try_into().unwrap())).collect()
@@ -16,7 +23,7 @@ pub fn open(info: &[u8], password: &[u16], stream: &[u8], room: usize) -> Result
         return Err(14);
     }
     let size = size as usize;
-    if blocks.len() != size.next_multiple_of(16) {
+    if !lengths(size).contains(&blocks.len()) {
         return Err(15);
     }
     if room < size {
@@ -25,21 +32,21 @@ pub fn open(info: &[u8], password: &[u16], stream: &[u8], room: usize) -> Result
     Ok(each_block(blocks, |b| aes.decrypt(b))[..size].to_vec())
 }
 
-/// The whole stream of a package, given the room of the output.
-pub fn seal(info: &[u8], password: &[u16], package: &[u8], filling: [u8; 16], room: usize) -> Result<Vec<u8>, u16> {
+/// The whole stream of a package, given the choice of an extra block and the room of the output.
+pub fn seal(info: &[u8], password: &[u16], package: &[u8], filling: [u8; 16], extra: bool, room: usize) -> Result<Vec<u8>, u16> {
     let aes = unlock(info, password)?;
     if package.len() as u64 > LIMIT {
         return Err(14);
     }
-    if room < package.len().next_multiple_of(16) + 8 {
+    if room < lengths(package.len())[usize::from(extra)] + 8 {
         return Err(16);
     }
-    Ok(sealed(&aes, package, filling))
+    Ok(sealed(&aes, package, filling, extra))
 }
 
 /// StreamSize, then package and filling encrypted.
-pub fn sealed(aes: &Aes, package: &[u8], filling: [u8; 16]) -> Vec<u8> {
-    let needed = package.len().next_multiple_of(16) - package.len();
+pub fn sealed(aes: &Aes, package: &[u8], filling: [u8; 16], extra: bool) -> Vec<u8> {
+    let needed = lengths(package.len())[usize::from(extra)] - package.len();
     let whole = [package, &filling[..needed]].concat();
     [&(package.len() as u64).to_le_bytes()[..], &each_block(&whole, |b| aes.encrypt(b))].concat()
 }

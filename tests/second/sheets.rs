@@ -7,6 +7,8 @@ use second::{
     writer::write_info,
 };
 
+const LETTERS: &[u8; 17] = b"abcdefghijklmnopq";
+
 type Result = std::result::Result<Vec<u8>, u16>;
 
 fn units(text: &str) -> Vec<u16> {
@@ -55,9 +57,9 @@ fn info(bits: u64, salt: [u8; 16]) -> Vec<u8> {
 }
 
 /// Sealed with filling f0 to ff.
-fn sealed(name: &str, info: &[u8], password: &str, package: &[u8], room: usize) -> Result {
+fn sealed(name: &str, info: &[u8], password: &str, package: &[u8], extra: bool, room: usize) -> Result {
     let filling = std::array::from_fn(|i| 0xf0 + i as u8);
-    let result = seal(info, &units(password), package, filling, room);
+    let result = seal(info, &units(password), package, filling, extra, room);
     line(&format!("seal {name}"), &result, room);
     result
 }
@@ -69,19 +71,19 @@ fn opened(name: &str, info: &[u8], password: &[u16], stream: &[u8], room: usize)
 fn round_trips(bits: u64, salt: [u8; 16]) {
     println!("AES-{bits}");
     let info = info(bits, salt);
-    let letters = b"abcdefghijklmnopq";
     let short = [(0, "0 bytes"), (1, "1 byte"), (15, "15 bytes"), (16, "16 bytes"), (17, "17 bytes")];
-    let trip = |name: &str, package: &[u8], room: usize| {
-        let stream = sealed(name, &info, "password", package, room).unwrap();
+    let trip = |name: &str, package: &[u8], extra: bool, room: usize| {
+        let stream = sealed(name, &info, "password", package, extra, room).unwrap();
         opened(name, &info, &units("password"), &stream, room);
     };
-    short.iter().for_each(|(n, name)| trip(name, &letters[..*n], 48));
-    trip("4,096 bytes", &pattern(4_096), 4_200);
+    short.iter().for_each(|(n, name)| trip(name, &LETTERS[..*n], false, 48));
+    trip("4,096 bytes", &pattern(4_096), false, 4_200);
+    trip("4,096 bytes with an extra block", &pattern(4_096), true, 4_200);
 }
 
 fn refusals(info: &[u8]) {
     let right = units("password");
-    let mut stream = sealed("the stream below", info, "password", b"abcdefghijklmnopq", 56).unwrap();
+    let mut stream = sealed("the stream below", info, "password", LETTERS, false, 56).unwrap();
     stream.resize(56, 0);
     for (name, size, n) in [
         ("0 bytes", 17, 0),
@@ -102,8 +104,37 @@ fn refusals(info: &[u8]) {
     opened("11 bytes of EncryptionInfo, 3 of the stream", &info[..11], &[], &stream[..3], 16);
     opened("256 units, 3 bytes", info, &[0x61; 256], &stream[..3], 16);
     opened("a wrong password, 3 bytes", info, &[], &stream[..3], 16);
-    let _ = sealed("1 byte with a wrong password", info, "", b"a", 23);
-    let _ = sealed("1 byte, room one byte short", info, "password", b"a", 23);
+    let _ = sealed("1 byte with a wrong password", info, "", b"a", false, 23);
+    let _ = sealed("1 byte, room one byte short", info, "password", b"a", false, 23);
+}
+
+/// Sealing with the choice of an extra block: at sizes that have none, and a byte of room too few for it.
+fn chosen(info: &[u8]) {
+    for (name, n) in [("17 bytes", 17), ("16 bytes", 16), ("0 bytes", 0)] {
+        let _ = sealed(&format!("{name}, extra block chosen and ignored"), info, "password", &LETTERS[..n], true, 48);
+    }
+    let _ = sealed("4,096 bytes with an extra block, room one byte short", info, "password", &pattern(4_096), true, 4_119);
+}
+
+/// Streams of n bytes, zeros after StreamSize: what else than the least length is opened.
+fn lengthened(info: &[u8]) {
+    for (name, size, n, room) in [
+        ("an extra block at StreamSize 4,096", 4_096, 4_120, 4_096),
+        ("an extra block at StreamSize 4,096, room one byte short", 4_096, 4_120, 4_095),
+        ("two extra blocks at StreamSize 4,096", 4_096, 4_136, 16),
+        ("15 bytes more at StreamSize 4,096", 4_096, 4_119, 16),
+        ("17 bytes more at StreamSize 4,096", 4_096, 4_121, 16),
+        ("an extra block at StreamSize 0", 0, 24, 16),
+        ("an extra block at StreamSize 16", 16, 40, 16),
+        ("an extra block at StreamSize 17", 17, 56, 16),
+        ("an extra block at StreamSize 4,080", 4_080, 4_104, 16),
+        ("an extra block at StreamSize 2^32 + 4,096", (1 << 32) + 4_096, 4_120, 16),
+        ("an extra block at StreamSize 268,439,552", 268_439_552, 4_120, 16),
+    ] {
+        let mut stream = u64::to_le_bytes(size).to_vec();
+        stream.resize(n, 0);
+        opened(name, info, &units("password"), &stream, room);
+    }
 }
 
 /// The two blocks of 000 8.1 as a package of 32 bytes.
@@ -168,6 +199,8 @@ fn main() {
     round_trips(192, rising());
     round_trips(256, rising());
     refusals(&info(128, stepping()));
+    chosen(&info(128, stepping()));
+    lengthened(&info(128, stepping()));
     published(&info(128, stepping()));
     written_infos();
     unwritten();

@@ -33,7 +33,8 @@ pub const PASSWORD_WRONG: u16 = 12;
 pub const STREAM_SHORT: u16 = 13;
 // The package size is above 268,435,456.
 pub const STREAM_SIZE: u16 = 14;
-// The bytes after the first 8 are not, in number, StreamSize rounded up to a multiple of 16.
+// The bytes after the first 8 are not, in number, StreamSize rounded up to a multiple of 16, nor, where StreamSize is above 0 and a
+// multiple of 4,096, that and an extra block.
 pub const STREAM_LENGTH: u16 = 15;
 // The output is shorter than what is to be written.
 pub const ROOM: u16 = 16;

@@ -2,6 +2,7 @@
 -- 1 to 10 bound a descriptor's fields. Assumes nothing.
 use mathlib.Core.Path.{_≡_, refl, ap, _∙_}
 use mathlib.Core.Logic.{inl, inr}
+use mathlib.Core.Bool.{Bool}
 use mathlib.Core.List.{List, [], _∷_}
 use Prim.Native.Nat.{ℕ, zero, suc, _+_, _/_, _^_, _≤_, _<_}
 use native.Mathlib.Omega.{arith}
@@ -14,6 +15,7 @@ use Rattle.descriptor.specs.Info as Info
 use Rattle.descriptor.proofs.Laws.{Admitted, alg-known, sound}
 use Rattle.sheet.specs.Sheet as Sheet
 use Rattle.sheet.specs.declared.Reply.{Reply}
+use Rattle.sheet.proofs.Fillings.{filling-most}
 use Rattle.sheet.proofs.Laws.{open-answer, open-zero, seal-answer, seal-zero}
 use Rattle.writer.specs.Written as Written
 use Rattle.writer.proofs.Laws.{writable}
@@ -38,9 +40,10 @@ unfolding Sheet.ended
 ended-size zero size content out most h = h refl
 ended-size (suc n) size content out most h = omega arith
 
-sealed-most : (size : ℕ) → size ≤ Sheet.limit → Sheet.sealedSize size ≤ Sheet.sealedSize Sheet.limit
-unfolding Sheet.sealedSize Sheet.rounded Sheet.least Sheet.limit
-sealed-most size h = omega arith
+-- the longest stream is that of the largest package with an extra block
+sealed-most : (extra : Bool) (size : ℕ) → size ≤ Sheet.limit → Sheet.sealedSize extra size ≤ 268435480
+unfolding Sheet.sealedSize Sheet.rounded Sheet.limit
+sealed-most extra size h = omega (arith, filling-most extra size)
 
 module _ (info password : List ℕ) where
   open-size : (stream out : List ℕ) → Sheet.opened info password stream out .reply .size ≤ Sheet.limit
@@ -48,11 +51,11 @@ module _ (info password : List ℕ) where
   open-size stream out =
       ended-size _ _ _ out Sheet.limit (λ h. open-zero info password stream out (open-answer info password stream out ∙ h) .1 .limited)
 
-  seal-size : (pack given out : List ℕ) → Sheet.sealed info password pack given out .reply .size ≤ Sheet.sealedSize Sheet.limit
+  seal-size : (pack given : List ℕ) (extra : Bool) (out : List ℕ) → Sheet.sealed info password pack given extra out .reply .size ≤ 268435480
   unfolding Sheet.sealed
-  seal-size pack given out =
-      ended-size _ _ _ out (Sheet.sealedSize Sheet.limit)
-      (λ h. sealed-most (length pack) (seal-zero info password pack given out (seal-answer info password pack given out ∙ h) .1 .limited))
+  seal-size pack given extra out =
+      ended-size _ _ _ out 268435480
+      (λ h. sealed-most extra (length pack) (seal-zero info password pack given extra out (seal-answer info password pack given extra out ∙ h) .1 .limited))
 
   -- so a word holds the size of a reply
   module _ (r : Reply) (old out : List ℕ) where
@@ -60,9 +63,8 @@ module _ (info password : List ℕ) where
     unfolding Sheet.limit
     open-held stream e = omega (arith, ap (λ (l : Sheet.Left). l .reply .size) e, open-size stream old)
 
-    pub seal-held : (pack given : List ℕ) → Sheet.left r out ≡ Sheet.sealed info password pack given old → r .size < 2 ^ 48
-    unfolding Sheet.sealedSize Sheet.rounded Sheet.least Sheet.limit
-    seal-held pack given e = omega (arith, ap (λ (l : Sheet.Left). l .reply .size) e, seal-size pack given old)
+    pub seal-held : (pack given : List ℕ) (extra : Bool) → Sheet.left r out ≡ Sheet.sealed info password pack given extra old → r .size < 2 ^ 48
+    seal-held pack given extra e = omega (arith, ap (λ (l : Sheet.Left). l .reply .size) e, seal-size pack given extra old)
 
 -- a new EncryptionInfo is as long as the longest that is admitted, at most
 pub write-held : (bits : ℕ) (password name salt verifier filling : List ℕ) (r : Reply) (old out : List ℕ)

@@ -7,7 +7,7 @@ use native.Mathlib.Omega.{arith}
 use Rattle.sheet.specs.declared.Reply.{Reply}
 use Rattle.sheet.specs.Sheet as Sheet
 use Rattle.writer.specs.Written as Written
-use Rattle.capi.specs.Capi.{word, sixteen, Left, left, ended, sheet, opened, sealed}
+use Rattle.capi.specs.Capi.{word, sixteen, chosen, Left, left, ended, sheet, opened, sealed}
 
 -- the two arms of a function that writes a value on answer 0 only
 pub answered : (answer w : ℕ) (value old out : List ℕ) → w ≡ word answer 0
@@ -39,7 +39,7 @@ module _ (info password : List ℕ) (w : ℕ) (r : Reply) (old out : List ℕ) (
   unfolding opened Sheet.opened
   open-crossed stream l = ap (λ (n : ℕ). left n out) e ∙ ap crossed l ∙ sheet-ended _ _ _ old
 
-  pub seal-crossed : (pack given : List ℕ) (low high : ℕ) → given ≡ sixteen low high
-      → Sheet.left r out ≡ Sheet.sealed info password pack given old → left w out ≡ sealed info password pack low high old
+  pub seal-crossed : (pack given : List ℕ) (low high extra : ℕ) → given ≡ sixteen low high
+      → Sheet.left r out ≡ Sheet.sealed info password pack given (chosen extra) old → left w out ≡ sealed info password pack low high extra old
   unfolding sealed Sheet.sealed
-  seal-crossed pack given low high q l = rw (← q) (ap (λ (n : ℕ). left n out) e ∙ ap crossed l ∙ sheet-ended _ _ _ old)
+  seal-crossed pack given low high extra q l = rw (← q) (ap (λ (n : ℕ). left n out) e ∙ ap crossed l ∙ sheet-ended _ _ _ old)

@@ -85,22 +85,23 @@ module _ (info password : List ℕ) where
         subst (λ (c : Capi.Left). Tells (c .word) (l .reply .answer) (l .reply .size))
         (open-crossed info password _ (l .reply) out (l .out) refl stream refl) (word-tells _ _ open-small)
 
-  module _ (pack : List ℕ) (low high : ℕ) (out : List ℕ) where
+  module _ (pack : List ℕ) (low high extra : ℕ) (out : List ℕ) where
     abbrev given : List ℕ
     given = Capi.sixteen low high
 
     abbrev replied : Sheet.Left
-    replied = Sheet.sealed info password pack given out
+    replied = Sheet.sealed info password pack given (Capi.chosen extra) out
 
     seal-small : replied .reply .answer < 65536
     unfolding Sheet.sealRules Sheet.packRules Verdict.verdictRules Verdict.passwordRules Info.infoRules
     seal-small =
-        rw (seal-answer info password pack given out) (small (Sheet.sealRules info password (length pack) (length out)) (omega arith))
+        rw (seal-answer info password pack given (Capi.chosen extra) out)
+        (small (Sheet.sealRules info password (Capi.chosen extra) (length pack) (length out)) (omega arith))
 
-    pub seal-tells : Tells (Capi.sealed info password pack low high out .word) (replied .reply .answer) (replied .reply .size)
+    pub seal-tells : Tells (Capi.sealed info password pack low high extra out .word) (replied .reply .answer) (replied .reply .size)
     seal-tells =
         subst (λ (c : Capi.Left). Tells (c .word) (replied .reply .answer) (replied .reply .size))
-        (seal-crossed info password _ (replied .reply) out (replied .out) refl pack given low high refl refl) (word-tells _ _ seal-small)
+        (seal-crossed info password _ (replied .reply) out (replied .out) refl pack given low high extra refl refl) (word-tells _ _ seal-small)
 
 -- a new EncryptionInfo
 module _ (bits : ℕ) (password name : List ℕ) (saltLow saltHigh verifierLow verifierHigh fillingLow fillingHigh : ℕ) (out : List ℕ) where

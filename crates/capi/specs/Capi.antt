@@ -1,10 +1,10 @@
 -- What each outside function returns and leaves, for every input (01, "What the product does" and "The numbered replies"). Its parts
 -- are those of the crates below; here is how they cross: numbers, sixteen bytes, a descriptor. Assumes nothing.
 use mathlib.Core.Path.{_≡_}
-use mathlib.Core.Bool.{cond}
+use mathlib.Core.Bool.{Bool, cond, not}
 use mathlib.Core.List.{List, _++_}
 use Prim.Native.Nat.{ℕ, zero, suc, _+_, _*_, _^_, _<_}
-use lib.Dec.{ltb}
+use lib.Dec.{ltb, eqb}
 use lib.ListN.{length, take}
 use Rattle.octets.specs.Octets.{leBytes}
 use Rattle.sha1.specs.Sha1 as Sha1
@@ -34,6 +34,10 @@ twelve low high = take 12 (sixteen low high)
 -- a number of bits as KeySize holds it in four bytes: a larger one counts as 0, which is no key's
 unfoldable pub bitCount : ℕ → BitCount
 bitCount bits = record { 0 = cond (ltb 4294967295 bits) 0 bits }
+
+-- a choice in a number: 0 for no, any other for yes
+unfoldable pub chosen : ℕ → Bool
+chosen n = not (eqb n 0)
 
 -- a descriptor's numbers in 20 bytes, low byte first: both versions, AlgID, the key's size in bytes, the name's place and its length
 unfoldable pub numberBytes : Descriptor → List ℕ
@@ -108,9 +112,9 @@ judged info password = word (Verdict.judged info password) 0
 unfoldable pub opened : (info password stream out : List ℕ) → Left
 opened info password stream out = sheet (Sheet.opened info password stream out) out
 
--- `ropeshadow_seal`, the filling in two numbers
-unfoldable pub sealed : (info password pack : List ℕ) (low high : ℕ) (out : List ℕ) → Left
-sealed info password pack low high out = sheet (Sheet.sealed info password pack (sixteen low high) out) out
+-- `ropeshadow_seal`, the filling in two numbers, the choice of an extra block in one
+unfoldable pub sealed : (info password pack : List ℕ) (low high extra : ℕ) (out : List ℕ) → Left
+sealed info password pack low high extra out = sheet (Sheet.sealed info password pack (sixteen low high) (chosen extra) out) out
 
 -- `ropeshadow_write_info`, salt, verifier and filling in two numbers each
 unfoldable pub written : (bits : ℕ) (password name : List ℕ) (saltLow saltHigh verifierLow verifierHigh fillingLow fillingHigh : ℕ) (out : List ℕ) → Left

@@ -100,7 +100,7 @@ pub extern "C" fn ropeshadow_open(
     word(r.answer, r.size)
 }
 
-// A package sealed into out, its last block filled with the first of sixteen bytes.
+// A package sealed into out, its last block filled with the first of sixteen bytes; `extra` other than 0 asks for an extra block.
 #[no_mangle]
 pub extern "C" fn ropeshadow_seal(
     info: &[u8],
@@ -108,11 +108,13 @@ pub extern "C" fn ropeshadow_seal(
     contents: &[u8],
     low: u64,
     high: u64,
+    extra: u64,
     out: &mut [u8],
 ) -> u64
-    ensures { λ r. ⌜ left r (now (out .exit)) ≡ Capi.sealed (now (info .entry)) (now (password .entry)) (now (contents .entry)) low high (now (out .entry)) ⌝ }
+    ensures { λ r. ⌜ left r (now (out .exit)) ≡ Capi.sealed (now (info .entry)) (now (password .entry)) (now (contents .entry)) low high extra (now (out .entry)) ⌝ }
 {
-    let r = sheet::seal(info, password, contents, sixteen(low, high), out);
+    let filling = sixteen(low, high);
+    let r = sheet::seal(info, password, contents, filling, extra != 0, out);
     word(r.answer, r.size)
 }
 

@@ -1,5 +1,6 @@
 // The cases of 01 that are run and not proved: a line each, which the gate compares with the file stdout. Each reply from 1 to 16
 // is given once where a later rule is broken too, so that the order shows; a refused call shows its buffer as it was.
+mod extra;
 mod info;
 mod sheets;
 mod writes;
@@ -9,6 +10,8 @@ fn main() {
     info::verdicts();
     sheets::round_trips();
     sheets::refusals();
+    extra::chosen();
+    extra::lengthened();
     sheets::published();
     writes::written();
     writes::unwritten();

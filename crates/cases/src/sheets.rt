@@ -18,16 +18,23 @@ pub fn left(reply: sheet::Reply, out: &[u8]) {
 }
 
 // Sealed, with filling f0 to ff.
-fn seal(what: &[u8], info: &[u8], password: &[u16], contents: &[u8], out: &mut [u8]) -> usize {
+pub fn seal(
+    what: &[u8],
+    info: &[u8],
+    password: &[u16],
+    contents: &[u8],
+    extra: bool,
+    out: &mut [u8],
+) -> usize {
     let filling = *b"\xf0\xf1\xf2\xf3\xf4\xf5\xf6\xf7\xf8\xf9\xfa\xfb\xfc\xfd\xfe\xff";
-    let r = sheet::seal(info, password, contents, filling, out);
+    let r = sheet::seal(info, password, contents, filling, extra, out);
     lines::text(b"seal ");
     lines::text(what);
     left(r, out);
     r.size
 }
 
-fn open(what: &[u8], info: &[u8], password: &[u16], stream: &[u8], out: &mut [u8]) {
+pub fn open(what: &[u8], info: &[u8], password: &[u16], stream: &[u8], out: &mut [u8]) {
     let r = sheet::open(info, password, stream, out);
     lines::text(b"open ");
     lines::text(what);
@@ -35,9 +42,9 @@ fn open(what: &[u8], info: &[u8], password: &[u16], stream: &[u8], out: &mut [u8
 }
 
 // There and back; `stream` and `out` are the two buffers.
-fn trip(what: &[u8], info: &[u8], contents: &[u8], stream: &mut [u8], out: &mut [u8]) {
+fn trip(what: &[u8], info: &[u8], contents: &[u8], extra: bool, stream: &mut [u8], out: &mut [u8]) {
     let password = samples::password();
-    let size = seal(what, info, &password, contents, stream);
+    let size = seal(what, info, &password, contents, extra, stream);
     open(what, info, &password, samples::front(stream, size), out);
 }
 
@@ -49,18 +56,19 @@ fn short_trip(what: &[u8], info: &[u8], n: usize) {
         what,
         info,
         samples::front(b"abcdefghijklmnopq", n),
+        false,
         &mut stream,
         &mut out,
     );
 }
 
 // 4,096 bytes, in longer ones.
-fn long_trip(info: &[u8]) {
+fn long_trip(what: &[u8], info: &[u8], extra: bool) {
     let mut all = [0u8; 4096];
     samples::pattern(&mut all);
     let mut stream = [0xa5u8; 4200];
     let mut out = [0xa5u8; 4200];
-    trip(b"4,096 bytes", info, &all, &mut stream, &mut out);
+    trip(what, info, &all, extra, &mut stream, &mut out);
 }
 
 fn trips(info: &[u8]) {
@@ -69,7 +77,8 @@ fn trips(info: &[u8]) {
     short_trip(b"15 bytes", info, 15);
     short_trip(b"16 bytes", info, 16);
     short_trip(b"17 bytes", info, 17);
-    long_trip(info);
+    long_trip(b"4,096 bytes", info, false);
+    long_trip(b"4,096 bytes with an extra block", info, true);
 }
 
 pub fn round_trips() {
@@ -89,13 +98,14 @@ fn sample(info: &[u8]) -> [u8; 56] {
         info,
         &samples::password(),
         b"abcdefghijklmnopq",
+        false,
         &mut stream,
     );
     stream
 }
 
 // Into a buffer of 16 bytes, which is left as it is.
-fn refused(what: &[u8], info: &[u8], password: &[u16], stream: &[u8]) {
+pub fn refused(what: &[u8], info: &[u8], password: &[u16], stream: &[u8]) {
     let mut out = [0xa5u8; 16];
     open(what, info, password, stream, &mut out);
 }
@@ -154,12 +164,20 @@ fn locked(info: &[u8], stream: &[u8]) {
 // Sealing: 12, and 16 a byte short.
 fn unsealed(info: &[u8]) {
     let mut out = [0xa5u8; 23];
-    seal(b"1 byte with a wrong password", info, &[], b"a", &mut out);
+    seal(
+        b"1 byte with a wrong password",
+        info,
+        &[],
+        b"a",
+        false,
+        &mut out,
+    );
     seal(
         b"1 byte, room one byte short",
         info,
         &samples::password(),
         b"a",
+        false,
         &mut out,
     );
 }

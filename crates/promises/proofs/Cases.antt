@@ -15,11 +15,12 @@ use Rattle.descriptor.specs.Info.{infoRules, headerSize, sizeExtra, algId, keyS
 use Rattle.descriptor.proofs.Laws.{parsed-answer, parsed-fields}
 use Rattle.password.specs.Verdict.{judged, keyOf}
 use Rattle.sheet.specs.Frame.{streamSize, streamOf}
-use Rattle.sheet.specs.Sheet.{limit, least, rounded, sealedSize, shortStream, large, streamRules, packRules, opened, sealed}
+use Rattle.sheet.specs.Sheet.{limit, least, takesExtra, fillingFor, rounded, sealedSize, shortStream, large, streamRules, packRules, opened, sealed}
 use Rattle.sheet.specs.Sheet.{sheetKey, sealing, filledWith, sealingOf}
+use Rattle.sheet.proofs.Fillings.{untaken}
 use Rattle.sheet.proofs.Lengths.{sealable}
 use Rattle.sheet.proofs.Laws.{open-by-stream, seal-by-pack, seal-done}
-use Rattle.promises.specs.Cases.{_is_, Case, seals, refuses, answers, passes, names, table, Outside, Claim, Every}
+use Rattle.promises.specs.Cases.{_is_, Case, seals, chooses, refuses, answers, passes, names, table, Outside, Claim, Every}
 use Rattle.answers.proofs.Rows.{_and_}
 
 -- what a row claims of our entries
@@ -28,17 +29,21 @@ Ours = Claim parsed judged opened sealed
 
 -- ---- sealing and opening
 
-seals-row : (size filling : ℕ) → least size ≡ filling → size ≤ 268435456 → Ours (seals size (8 + (size + filling)) filling)
+chooses-row : (extra : Bool) (size filling : ℕ) → fillingFor extra size ≡ filling → size ≤ 268435456 → Ours (chooses extra size (8 + (size + filling)) filling)
 unfolding limit sealedSize rounded sealingOf streamOf filledWith sealing sheetKey keyOf described
-seals-row size filling f l info password pack given out v n g r =
-    let z : least (length pack) ≡ filling = ap least n ∙ f in
-    seal-done info password pack given out v (sealable (length pack) (length out) .1 (record { limited = omega arith; roomy = rw z (omega arith) }))
-    ∙ rw (z, n)
+chooses-row extra size filling f l info password pack given out v n g r =
+    let z : fillingFor extra (length pack) ≡ filling = ap (fillingFor extra) n ∙ f in
+    let k = sealable extra (length pack) (length out) .1 (record { limited = omega arith; roomy = rw z (omega arith) }) in
+    seal-done info password pack given extra out v k ∙ rw (z, n)
+
+-- where the size takes no extra block
+seals-row : (size filling : ℕ) → takesExtra size ≡ false → least size ≡ filling → size ≤ 268435456 → Ours (seals size (8 + (size + filling)) filling)
+seals-row size filling t f l extra = chooses-row extra size filling (untaken extra size t ∙ f) l
 
 module _ (size : ℕ) (h : 268435456 < size) where
-  pack-large : (n room : ℕ) → n ≡ size → firstOf (packRules n room) ≡ 14
+  pack-large : (extra : Bool) (n room : ℕ) → n ≡ size → firstOf (packRules extra n room) ≡ 14
   unfolding packRules large limit
-  pack-large n room e = broke _ _ (lt-ltb 268435456 n (omega arith))
+  pack-large extra n room e = broke _ _ (lt-ltb 268435456 n (omega arith))
 
   stream-large : (s : List ℕ) (room : ℕ) → 8 ≤ length s → streamSize s ≡ size → firstOf (streamRules s room) ≡ 14
   unfolding streamRules shortStream large limit
@@ -46,9 +51,9 @@ module _ (size : ℕ) (h : 268435456 < size) where
 
   refuses-row : Ours (refuses size 14)
   refuses-row info password v = (
-    λ pack given out n g.
-        let e : firstOf (packRules (length pack) (length out)) ≡ 14 = pack-large (length pack) (length out) n in
-        seal-by-pack info password pack given out v (λ z. omega arith) ∙ rw e,
+    λ pack given extra out n g.
+        let e : firstOf (packRules extra (length pack) (length out)) ≡ 14 = pack-large extra (length pack) (length out) n in
+        seal-by-pack info password pack given extra out v (λ z. omega arith) ∙ rw e,
     λ s out l n.
         let e : firstOf (streamRules s (length out)) ≡ 14 = stream-large s (length out) l n in
         open-by-stream info password s out v (λ z. omega arith) ∙ rw e,
@@ -119,15 +124,17 @@ p12 info f h = after 7 info h ∙ broke _ _ (rw (f .0, f .1 .0))
 -- ---- the table
 
 pub cases : Every parsed judged opened sealed table
-unfolding least badHeaderSize badName
+unfolding least takesExtra fillingFor badHeaderSize badName
 cases =
-    seals-row 0 0 refl (lit≤ tt)  -- P1
-    and seals-row 1 15 refl (lit≤ tt)  -- P2
-    and seals-row 15 1 refl (lit≤ tt)  -- P3
-    and seals-row 16 0 refl (lit≤ tt)  -- P4
-    and seals-row 17 15 refl (lit≤ tt)  -- P5
-    and seals-row 4096 0 refl (lit≤ tt)  -- P6
-    and seals-row 268435456 0 refl (lit≤ tt)  -- P7
+    seals-row 0 0 refl refl (lit≤ tt)  -- P1
+    and seals-row 1 15 refl refl (lit≤ tt)  -- P2
+    and seals-row 15 1 refl refl (lit≤ tt)  -- P3
+    and seals-row 16 0 refl refl (lit≤ tt)  -- P4
+    and seals-row 17 15 refl refl (lit≤ tt)  -- P5
+    and chooses-row false 4096 0 refl (lit≤ tt)  -- P6
+    and chooses-row true 4096 16 refl (lit≤ tt)
+    and chooses-row false 268435456 0 refl (lit≤ tt)  -- P7
+    and chooses-row true 268435456 16 refl (lit≤ tt)
     and refuses-row 268435457 (lit< tt)
     and p8  -- P8
     and p8-other 115 refl

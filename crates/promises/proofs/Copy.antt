@@ -1,6 +1,7 @@
 -- A sealer and an opener that copy without encrypting keep demand 3: an operation that does nothing is reversible. What stops them is
 -- demand 2, which says by which operation: they would keep it only if AES left every block as it is. Assumes nothing.
 use mathlib.Core.Path.{_≡_, refl, sym, ap, _∙_}
+use mathlib.Core.Bool.{Bool}
 use mathlib.Core.List.{List}
 use Prim.Native.Nat.{ℕ, _+_, _-_, _≤_}
 use native.Mathlib.Omega.{arith}
@@ -14,10 +15,11 @@ use Rattle.password.specs.Verdict.{judged}
 use Rattle.blocks.specs.Stream.{Undone}
 use Rattle.blocks.specs.Blocks.{whole}
 use Rattle.sheet.specs.Frame.{Pair, Lawful, Admitted, Sound, Inverse, streamSize, streamOf, pairOf}
-use Rattle.sheet.specs.Sheet.{limit, lengths, rounded, sealedSize, openRules, sealRules, filledWith, Left, ended, gives}
+use Rattle.sheet.specs.Sheet.{limit, lengths, rounded, sealedSize, openRules, packRules, sealRules, filledWith, Left, ended, gives}
 use Rattle.sheet.proofs.Frame.{inverse, one-pair, length-streamOf, size-streamOf, length-pack}
-use Rattle.sheet.proofs.Lengths.{allowed-whole, Openable, openable, openable-admitted, admitted-openable, Sealable, sealable}
-use Rattle.sheet.proofs.Laws.{ended-answer, open-answer, open-done, open-zero, seal-answer, seal-done, seal-zero, filling-least, filled-begins}
+use Rattle.sheet.proofs.Fillings.{allowed-whole, allowed-holds}
+use Rattle.sheet.proofs.Lengths.{Openable, openable, openable-admitted, admitted-openable, Sealable, sealable}
+use Rattle.sheet.proofs.Laws.{ended-answer, open-answer, open-done, open-zero, seal-answer, seal-done, seal-zero, filled-begins}
 use Rattle.promises.specs.Words.{Parser, Judge, Opener, Sealer, Accepted, publishedKey}
 use Rattle.promises.specs.Two.{Demand2}
 use Rattle.promises.specs.Three.{Begins, Demand3}
@@ -32,8 +34,9 @@ pub copies-out : Opener
 copies-out info password s out = ended (firstOf (openRules info password s (length out))) (streamSize s) (pairOf same s .pack) out
 
 pub copies-in : Sealer
-copies-in info password pack given out =
-    ended (firstOf (sealRules info password (length pack) (length out))) (sealedSize (length pack)) (streamOf same (filledWith pack given)) out
+copies-in info password pack given extra out =
+    ended (firstOf (sealRules info password extra (length pack) (length out))) (sealedSize extra (length pack))
+    (streamOf same (filledWith pack given extra)) out
 
 undone : Undone whole same same
 unfolding same
@@ -49,9 +52,9 @@ inverted = inverse lengths whole same same sound
 long : (p : Pair) → Lawful lengths p → length (streamOf same p) ≡ 8 + (length (p .pack) + length (p .fill))
 long p w = length-streamOf lengths whole same same sound p w
 
-size-is : (p : Pair) → Lawful lengths p → sealedSize (length (p .pack)) ≡ length (streamOf same p)
+size-is : (p : Pair) (given : List ℕ) (extra : Bool) → Lawful lengths p → Begins p given extra → sealedSize extra (length (p .pack)) ≡ length (streamOf same p)
 unfolding sealedSize rounded
-size-is p w = rw (long p w, filling-least p w)
+size-is p given extra w g = rw (long p w, g .chosen)
 
 module _ (info password : List ℕ) where
   -- an accepted copy is a call that ours accepts
@@ -60,15 +63,16 @@ module _ (info password : List ℕ) where
   open-taken s out h =
       open-zero info password s out (open-answer info password s out ∙ sym (ended-answer _ (streamSize s) (pairOf same s .pack) out) ∙ h) .1
 
-  seal-taken : (pack given out : List ℕ) → Accepted (copies-in info password pack given out) → Sealable (length pack) (length out)
+  seal-taken : (pack given : List ℕ) (extra : Bool) (out : List ℕ) → Accepted (copies-in info password pack given extra out)
+      → Sealable extra (length pack) (length out)
   unfolding copies-in
-  seal-taken pack given out h =
-      let a = ended-answer _ (sealedSize (length pack)) (streamOf same (filledWith pack given)) out in
-      seal-zero info password pack given out (seal-answer info password pack given out ∙ sym a ∙ h) .1
+  seal-taken pack given extra out h =
+      let a = ended-answer _ (sealedSize extra (length pack)) (streamOf same (filledWith pack given extra)) out in
+      seal-zero info password pack given extra out (seal-answer info password pack given extra out ∙ sym a ∙ h) .1
 
-  room : (p : Pair) → Lawful lengths p → (given out : List ℕ) → Accepted (copies-in info password (p .pack) given out)
-      → length (streamOf same p) ≤ length out
-  room p w given out h = rw (← size-is p w) (seal-taken (p .pack) given out h .roomy)
+  room : (p : Pair) → Lawful lengths p → (given : List ℕ) (extra : Bool) (out : List ℕ) → Begins p given extra
+      → Accepted (copies-in info password (p .pack) given extra out) → length (streamOf same p) ≤ length out
+  room p w given extra out g h = rw (← size-is p given extra w g) (seal-taken (p .pack) given extra out h .roomy)
 
   own : (s out : List ℕ) → Bytes s → Accepted (copies-out info password s out) → Own (streamOf same) s out (pairOf same s)
   own s out b h =
@@ -81,15 +85,16 @@ module _ (info password : List ℕ) where
       }
 
   module _ (v : judged info password ≡ 0) where
-    seals-to : (p : Pair) → Lawful lengths p → (given out : List ℕ) → Begins p given → length (streamOf same p) ≤ length out
-        → copies-in info password (p .pack) given out ≡ gives (streamOf same p) out
+    seals-to : (p : Pair) → Lawful lengths p → (given : List ℕ) (extra : Bool) (out : List ℕ) → Begins p given extra
+        → length (streamOf same p) ≤ length out → copies-in info password (p .pack) given extra out ≡ gives (streamOf same p) out
     unfolding copies-in lengths ended
-    seals-to p w given out g h =
-        let k : Sealable (length (p .pack)) (length out) = record { limited = w .limited; roomy = rw (size-is p w) h } in
-        let z : firstOf (sealRules info password (length (p .pack)) (length out)) ≡ 0 =
-        sym (seal-answer info password (p .pack) given out)
-        ∙ ap (λ (l : Left). l .reply .answer) (seal-done info password (p .pack) given out v (sealable (length (p .pack)) (length out) .1 k)) in
-        rw (z, filled-begins p w given (g .begins), size-is p w)
+    seals-to p w given extra out g h =
+        let size = size-is p given extra w g in
+        let k : Sealable extra (length (p .pack)) (length out) = record { limited = w .limited; roomy = rw size h } in
+        let done = seal-done info password (p .pack) given extra out v (sealable extra (length (p .pack)) (length out) .1 k) in
+        let z : firstOf (sealRules info password extra (length (p .pack)) (length out)) ≡ 0 =
+        sym (seal-answer info password (p .pack) given extra out) ∙ ap (λ (l : Left). l .reply .answer) done in
+        rw (z, filled-begins p given extra (g .chosen) (g .begins), size)
 
     opens-to : (p : Pair) → Lawful lengths p → (out : List ℕ) → length (p .pack) ≤ length out
         → copies-out info password (streamOf same p) out ≡ gives (p .pack) out
@@ -104,7 +109,7 @@ module _ (info password : List ℕ) where
         rw (z, n, inverted .pair-again p w)
 
     inverts : Inverts copies-out copies-in info password
-    unfolding copies-in filledWith
+    unfolding copies-in filledWith sealRules packRules sealedSize rounded
     inverts =
         record {
           stream = streamOf same;
@@ -115,7 +120,8 @@ module _ (info password : List ℕ) where
           opens-to = opens-to;
           sealed-room = room;
           opened-own = own;
-          alike = λ pack given other out e. rw e;
+          alike = λ pack given other extra out e. rw e;
+          by-length = λ pack given extra other out e. rw e;
         }
 
 pub copies-keep-3 : Demand3 judged copies-out copies-in
@@ -123,12 +129,12 @@ copies-keep-3 = record { under = λ info password v. exact copies-out copies-in 
 
 -- on the calls that are to be accepted the copy writes what stands in the stream
 copy-opens : OpensBy copies-out (λ info password ciphertext. ciphertext)
-unfolding copies-out ended pairOf same rounded
+unfolding copies-out ended pairOf same
 copy-opens info password s out a =
     let k : Openable s (length out) = open-zero info password s out a .1 in
     let z : firstOf (openRules info password s (length out)) ≡ 0 = sym (open-answer info password s out) ∙ a in
     let n : length (drop 8 s) ≡ length s - 8 = length-drop 8 s in
-    let r : length (take (streamSize s) (drop 8 s)) ≡ streamSize s = length-take-le (streamSize s) (drop 8 s) (omega (arith, k .long)) in
+    let r : length (take (streamSize s) (drop 8 s)) ≡ streamSize s = length-take-le (streamSize s) (drop 8 s) (omega (arith, allowed-holds (streamSize s) (length s - 8) (k .long))) in
     rw z (take-at (take (streamSize s) (drop 8 s)) (replicate (length out - streamSize s) 0) (streamSize s) r)
 
 -- so they keep demand 2 only where AES under every accepted key leaves every block as it is

@@ -1,6 +1,7 @@
 -- Demands 1 and 2, and the promise of new descriptors, leave nothing open: whoever keeps them is the entry itself, for every input. Assumes
 -- nothing.
 use mathlib.Core.Path.{_≡_, refl, sym, ap, _∙_}
+use mathlib.Core.Bool.{Bool}
 use mathlib.Core.List.{List, _++_}
 use Prim.Native.Nat.{ℕ, zero, suc, _-_}
 use native.Mathlib.Omega.{arith}
@@ -67,14 +68,14 @@ module _ (parses : Parser) (judges : Judge) (opens : Opener) (seals : Sealer)
       one-answer (openRules info password s (length out)) _ _ (two .open-answer info password s out) (demand-2 .open-answer info password s out) in
       one-left openNumbers (packageOf info password s) out _ _ (one .opening info password s out) (demand-1 .opening info password s out) e
 
-  pub the-sealer : (info password pack given out : List ℕ) → length given ≡ 16
-      → seals info password pack given out ≡ sealed info password pack given out
-  the-sealer info password pack given out g =
-      let e : seals info password pack given out .reply .answer ≡ sealed info password pack given out .reply .answer =
-      one-answer (sealRules info password (length pack) (length out)) _ _
-      (two .seal-answer info password pack given out g) (demand-2 .seal-answer info password pack given out g) in
-      one-left sealNumbers (sealingOf info password (filledWith pack given)) out _ _
-      (one .sealing info password pack given out g) (demand-1 .sealing info password pack given out g) e
+  pub the-sealer : (info password pack given : List ℕ) (extra : Bool) (out : List ℕ) → length given ≡ 16
+      → seals info password pack given extra out ≡ sealed info password pack given extra out
+  the-sealer info password pack given extra out g =
+      let e : seals info password pack given extra out .reply .answer ≡ sealed info password pack given extra out .reply .answer =
+      one-answer (sealRules info password extra (length pack) (length out)) _ _
+      (two .seal-answer info password pack given extra out g) (demand-2 .seal-answer info password pack given extra out g) in
+      one-left sealNumbers (sealingOf info password (filledWith pack given extra)) out _ _
+      (one .sealing info password pack given extra out g) (demand-1 .sealing info password pack given extra out g) e
 
 pub the-writer : (w : Writer) (parses : Parser) (judges : Judge) (opens : Opener) (seals : Sealer) → NewInfo w parses judges opens seals
     → (i : Input) (out : List ℕ) → Typed i → w i out ≡ writes i out

@@ -1,12 +1,14 @@
 -- Demand 3 under one descriptor and password, from what any opener and sealer have to show for it: a stream for each pair, a pair for
 -- each stream, and that the calls go by them. Assumes nothing.
 use mathlib.Core.Path.{_≡_, refl, sym, ap, _∙_}
+use mathlib.Core.Bool.{Bool}
 use mathlib.Core.List.{List}
 use Prim.Native.Nat.{ℕ, _+_, _≤_}
 use lib.ListN.{length, take}
 use Rattle.octets.specs.Octets.{Bytes}
 use Rattle.sheet.specs.Frame.{Pair, Lawful}
-use Rattle.sheet.specs.Sheet.{lengths, least, gives}
+use Rattle.sheet.specs.Sheet.{lengths, fillingFor, gives}
+use Rattle.sheet.proofs.Fillings.{untaken}
 use Rattle.promises.specs.Words.{Opener, Sealer, Accepted, written}
 use Rattle.promises.specs.Three.{Begins, Seals, Sealed, Round, Only, Exact}
 use Rattle.promises.proofs.Ended.{wrote}
@@ -22,20 +24,23 @@ pub record Inverts (opens : Opener) (seals : Sealer) (info password : List ℕ) 
   pub own : List ℕ → Pair
   pub long : (p : Pair) → Lawful lengths p → length (stream p) ≡ 8 + (length (p .pack) + length (p .fill))
   pub once : (p q : Pair) → Lawful lengths p → Lawful lengths q → stream p ≡ stream q → p ≡ q
-  pub seals-to : (p : Pair) → Lawful lengths p → (given out : List ℕ) → Begins p given → length (stream p) ≤ length out
-      → seals info password (p .pack) given out ≡ gives (stream p) out
+  pub seals-to : (p : Pair) → Lawful lengths p → (given : List ℕ) (extra : Bool) (out : List ℕ) → Begins p given extra → length (stream p) ≤ length out
+      → seals info password (p .pack) given extra out ≡ gives (stream p) out
   pub opens-to : (p : Pair) → Lawful lengths p → (out : List ℕ) → length (p .pack) ≤ length out
       → opens info password (stream p) out ≡ gives (p .pack) out
-  pub sealed-room : (p : Pair) → Lawful lengths p → (given out : List ℕ) → Accepted (seals info password (p .pack) given out)
-      → length (stream p) ≤ length out
+  pub sealed-room : (p : Pair) → Lawful lengths p → (given : List ℕ) (extra : Bool) (out : List ℕ) → Begins p given extra
+      → Accepted (seals info password (p .pack) given extra out) → length (stream p) ≤ length out
   pub opened-own : (s out : List ℕ) → Bytes s → Accepted (opens info password s out) → Own stream s out (own s)
-  pub alike : (pack given other out : List ℕ) → take (least (length pack)) given ≡ take (least (length pack)) other
-      → seals info password pack given out ≡ seals info password pack other out
+  pub alike : (pack given other : List ℕ) (extra : Bool) (out : List ℕ)
+      → take (fillingFor extra (length pack)) given ≡ take (fillingFor extra (length pack)) other
+      → seals info password pack given extra out ≡ seals info password pack other extra out
+  pub by-length : (pack given : List ℕ) (extra other : Bool) (out : List ℕ) → fillingFor extra (length pack) ≡ fillingFor other (length pack)
+      → seals info password pack given extra out ≡ seals info password pack given other out
 
 module _ (opens : Opener) (seals : Sealer) (info password : List ℕ) (v : Inverts opens seals info password) where
   module _ (p : Pair) (w : Lawful lengths p) where
     into : (s : List ℕ) → v .stream p ≡ s → Seals seals info password p s
-    into s e = record { always = λ given out g h. v .seals-to p w given out g (rw e h) ∙ ap (λ (x : List ℕ). gives x out) e }
+    into s e = record { always = λ given extra out g h. v .seals-to p w given extra out g (rw e h) ∙ ap (λ (x : List ℕ). gives x out) e }
 
     round : Round opens seals info password p
     round =
@@ -49,7 +54,8 @@ module _ (opens : Opener) (seals : Sealer) (info password : List ℕ) (v : Inver
     -- an accepted call wrote the pair's stream
     sealed-is : (s : List ℕ) → Sealed seals info password p s → v .stream p ≡ s
     sealed-is s c =
-        let e = v .seals-to p w (c .given) (c .out) (c .begins) (v .sealed-room p w (c .given) (c .out) (c .accepted)) in
+        let r = v .sealed-room p w (c .given) (c .extra) (c .out) (c .begins) (c .accepted) in
+        let e = v .seals-to p w (c .given) (c .extra) (c .out) (c .begins) r in
         sym (wrote (v .stream p) (c .out)) ∙ sym (ap written e) ∙ c .wrote
 
   -- an accepted opening wrote the package of the stream's own pair
@@ -79,5 +85,6 @@ module _ (opens : Opener) (seals : Sealer) (info password : List ℕ) (v : Inver
         a = λ p w. round p w;
         b = λ p q w x s c d. v .once p q w x (sealed-is p w s c ∙ sym (sealed-is q x s d));
         c = λ s out b h. only s out b h;
-        d = λ pack given other out g f e. v .alike pack given other out e;
+        d = λ pack given other extra out g f e. v .alike pack given other extra out e;
+        e = λ pack given extra other out g n. v .by-length pack given extra other out (untaken extra (length pack) n ∙ sym (untaken other (length pack) n));
       }

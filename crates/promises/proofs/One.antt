@@ -1,5 +1,6 @@
 -- Our entries keep demand 1: each answers by its list of rules, and what an accepted call writes is as long as its size. Assumes nothing.
 use mathlib.Core.Path.{_≡_, sym, _∙_}
+use mathlib.Core.Bool.{Bool}
 use mathlib.Core.List.{List}
 use Prim.Native.Nat.{ℕ, _≤_}
 use lib.ListN.{length}
@@ -35,18 +36,18 @@ module _ (info password : List ℕ) where
           let k = open-zero info password s out (open-answer info password s out ∙ z) .1 in
           (sym (length-package info password s (length out) k), k .roomy)
 
-  seal-call : (pack given out : List ℕ) → length given ≡ 16
-      → Call sealNumbers (sealingOf info password (filledWith pack given)) out (sealed info password pack given out)
+  seal-call : (pack given : List ℕ) (extra : Bool) (out : List ℕ) → length given ≡ 16
+      → Call sealNumbers (sealingOf info password (filledWith pack given extra)) out (sealed info password pack given extra out)
   unfolding sealed sealRules verdictRules infoRules passwordRules packRules filledWith
-  seal-call pack given out g =
-      ended-call sealNumbers (firstOf (sealRules info password (length pack) (length out))) (sealedSize (length pack))
-      (sealingOf info password (filledWith pack given)) out (listed (sealRules info password (length pack) (length out))) fits
+  seal-call pack given extra out g =
+      ended-call sealNumbers (firstOf (sealRules info password extra (length pack) (length out))) (sealedSize extra (length pack))
+      (sealingOf info password (filledWith pack given extra)) out (listed (sealRules info password extra (length pack) (length out))) fits
     where
-      fits : firstOf (sealRules info password (length pack) (length out)) ≡ 0
-          → (sealedSize (length pack) ≡ length (sealingOf info password (filledWith pack given))) × (sealedSize (length pack) ≤ length out)
+      fits : firstOf (sealRules info password extra (length pack) (length out)) ≡ 0
+          → (sealedSize extra (length pack) ≡ length (sealingOf info password (filledWith pack given extra))) × (sealedSize extra (length pack) ≤ length out)
       fits z =
-          let k = seal-zero info password pack given out (seal-answer info password pack given out ∙ z) .1 in
-          (sym (length-sealing info password (filledWith pack given) (length-filling pack given g)), k .roomy)
+          let k = seal-zero info password pack given extra out (seal-answer info password pack given extra out ∙ z) .1 in
+          (sym (length-sealing info password (filledWith pack given extra) extra (length-filling pack given extra g)), k .roomy)
 
 pub demand-1 : Demand1 parsed judged opened sealed
 unfolding judged verdictRules infoRules passwordRules
@@ -55,5 +56,5 @@ demand-1 =
       parsing = λ info. parse info;
       judging = λ info password. listed (verdictRules info password);
       opening = λ info password s out. open-call info password s out;
-      sealing = λ info password pack given out g. seal-call info password pack given out g;
+      sealing = λ info password pack given extra out g. seal-call info password pack given extra out g;
     }

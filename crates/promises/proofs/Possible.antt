@@ -1,11 +1,12 @@
 -- Instances of what the promises take for granted. Nothing is computed on a package: its length is a law. Assumes nothing.
-use mathlib.Core.Path.{refl, ap, _∙_}
-use mathlib.Core.List.{List, [], _∷_}
-use Prim.Native.Nat.{ℕ, _^_, _≤_, _<_}
+use mathlib.Core.Path.{_≡_, refl, ap, _∙_}
+use mathlib.Core.Bool.{Bool, true, false}
+use mathlib.Core.List.{List, [], _∷_, _++_}
+use Prim.Native.Nat.{ℕ, _-_, _%_, _^_, _≤_, _<_}
 use native.Mathlib.Omega.{arith}
 use lib.Dec.{lit<, lit≤}
-use lib.ListN.{length, replicate, length-replicate}
-use lib.Seq.{take-all}
+use lib.ListN.{length, replicate, length-append, length-replicate}
+use lib.Seq.{take-at, take-all}
 use Rattle.octets.specs.Octets.{Bytes, le, leAt, leBytes}
 use Rattle.octets.proofs.Below.{nil-bytes, replicate-below, leBytes-bytes}
 use Rattle.octets.proofs.Numbers.{length-leBytes, le-leBytes}
@@ -14,13 +15,15 @@ use Rattle.descriptor.specs.Info as Info
 use Rattle.descriptor.specs.Info.{parsed}
 use Rattle.descriptor.specs.LaidOut.{laidOut, front, verifier, numbers}
 use Rattle.password.specs.Verdict.{judged}
-use Rattle.sheet.specs.Frame.{streamSize}
-use Rattle.sheet.specs.Sheet.{limit, filledWith}
-use Rattle.sheet.proofs.Laws.{filled-lawful, length-filling}
+use Rattle.sheet.specs.Frame.{Pair, Lawful, streamSize}
+use Rattle.sheet.specs.Sheet.{limit, lengths, filledWith}
+use Rattle.sheet.proofs.Fillings.{filling-most}
+use Rattle.sheet.proofs.Laws.{filled-lawful, length-filling, filling-chosen}
 use Rattle.writer.specs.Written.{infoOf}
 use Rattle.writer.proofs.Back.{Given, info-bytes, info-bits, info-accepted}
+use Rattle.promises.specs.Three.{Begins}
 use Rattle.promises.specs.Cases.{table}
-use Rattle.promises.specs.Possible.{Locks, Fills, Long, Told, Instances, Possible}
+use Rattle.promises.specs.Possible.{Locks, Fills, Begun, Extra, Long, Told, Instances, Possible}
 use Rattle.answers.proofs.Rows.{_and_}
 
 -- ---- accepted passwords
@@ -63,18 +66,61 @@ told size h =
       told = ap le (take-all 8 (leBytes 8 size) (rw length-leBytes (lit≤ tt))) ∙ le-leBytes 8 size h;
     }
 
-fills : (size : ℕ) → size ≤ 268435456 → Fills size
+-- sixteen bytes begin with the filling that they give
+pub given-begins : (pack given : List ℕ) (extra : Bool) → length given ≡ 16 → Begins (filledWith pack given extra) given extra
+unfolding filledWith
+given-begins pack given extra h =
+    let n = length-filling pack given extra h in
+    record { sixteen = h; chosen = n; begins = rw n }
+
+fills : (extra : Bool) (size : ℕ) → size ≤ 268435456 → Fills extra size
 unfolding limit filledWith
-fills size h = filled (long size) (long 16)
+fills extra size h = filled (long size) (long 16)
   where
-    filled : Long size → Long 16 → Fills size
+    filled : Long size → Long 16 → Fills extra size
     filled pack given =
         record {
-          it = filledWith (pack .it) (given .it);
-          lawful = filled-lawful (pack .it) (given .it) (given .long) (pack .bytes) (given .bytes) (omega (arith, pack .long));
+          it = filledWith (pack .it) (given .it) extra;
+          lawful = filled-lawful (pack .it) (given .it) extra (given .long) (pack .bytes) (given .bytes) (omega (arith, pack .long));
           sized = pack .long;
           given = given .it;
-          begins = record { sixteen = given .long; begins = rw (length-filling (pack .it) (given .it) (given .long)) };
+          begins = given-begins (pack .it) (given .it) extra (given .long);
+        }
+
+-- a filling, with zeros to sixteen bytes
+begun : (p : Pair) → Lawful lengths p → Begun p
+begun p w =
+    let k = filling-chosen p w in
+    let zeros : List ℕ = replicate (16 - length (p .fill)) 0 in
+    let few : length (p .fill) ≤ 16 = omega (arith, k .1, filling-most (k .0) (length (p .pack))) in
+    record {
+      given = p .fill ++ zeros;
+      extra = k .0;
+      begins = record {
+        sixteen = simp (length-append, length-replicate) (omega arith);
+        chosen = k .1;
+        begins = take-at (p .fill) zeros (length (p .fill)) refl;
+      };
+    }
+
+extra : (size : ℕ) → 0 < size → size % 4096 ≡ 0 → size ≤ 268435456 → Extra size
+extra size p m l = taking (long size) (long 16)
+  where
+    taking : Long size → Long 16 → Extra size
+    taking pack given =
+        let n : length (pack .it) ≡ size = pack .long in
+        record {
+          pack = pack .it;
+          sized = n;
+          given = given .it;
+          takes = record {
+            pack-bytes = pack .bytes;
+            given-bytes = given .bytes;
+            sixteen = given .long;
+            some = rw n p;
+            multiple = rw n m;
+            limited = rw n l;
+          };
         }
 
 -- ---- rows
@@ -108,13 +154,15 @@ rows : Instances parsed table
 unfolding sample laidOut front verifier numbers leBytes leAt le parsed firstOf Info.infoRules Info.major Info.minor Info.headerSize Info.sizeExtra Info.algId
     Info.algIdHash Info.keySize Info.saltSize Info.verifierHashSize Info.badVersion Info.badHeaderSize Info.badName Info.suiteOf
 rows =
-    (fills 0 (lit≤ tt), long 8)  -- P1
-    and (fills 1 (lit≤ tt), long 24)  -- P2
-    and (fills 15 (lit≤ tt), long 24)  -- P3
-    and (fills 16 (lit≤ tt), long 24)  -- P4
-    and (fills 17 (lit≤ tt), long 40)  -- P5
-    and (fills 4096 (lit≤ tt), long 4104)  -- P6
-    and (fills 268435456 (lit≤ tt), long 268435464)  -- P7
+    (λ extra. (fills extra 0 (lit≤ tt), long 8))  -- P1
+    and (λ extra. (fills extra 1 (lit≤ tt), long 24))  -- P2
+    and (λ extra. (fills extra 15 (lit≤ tt), long 24))  -- P3
+    and (λ extra. (fills extra 16 (lit≤ tt), long 24))  -- P4
+    and (λ extra. (fills extra 17 (lit≤ tt), long 40))  -- P5
+    and (fills false 4096 (lit≤ tt), long 4104)  -- P6
+    and (fills true 4096 (lit≤ tt), long 4120)
+    and (fills false 268435456 (lit≤ tt), long 268435464)  -- P7
+    and (fills true 268435456 (lit≤ tt), long 268435480)
     and (long 268435457, told 268435457 (lit< tt))
     and (sample 32 0 0x660e 128 0 32, refl and refl and tt, refl and refl and tt)  -- P8
     and (sample 32 0 0x660e 128 0 31, refl and refl and tt, refl and refl and refl and tt)
@@ -129,4 +177,4 @@ rows =
     and tt
 
 pub possible : Possible parsed judged
-possible = record { locks = locks; fills = fills; rows = rows }
+possible = record { locks = locks; fills = fills; begun = begun; extra = extra; rows = rows }

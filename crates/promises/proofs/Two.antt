@@ -1,5 +1,6 @@
 -- Our entries keep demand 2: their definitions are what it says, read through the laws of the rules. Assumes nothing.
 use mathlib.Core.Path.{_≡_, ap}
+use mathlib.Core.Bool.{Bool}
 use mathlib.Core.List.{List, _++_}
 use Prim.Native.Nat.{ℕ, _+_, _-_, _≤_}
 use borrow.Author.Tests.{le-ltb, ltb-false, not-false}
@@ -14,7 +15,7 @@ use Rattle.descriptor.proofs.Laws.{info-numbered, parsed-answer, parsed-fields}
 use Rattle.password.specs.Verdict.{keyOf, verifierHash, matches, passwordRules, verdictRules, judged}
 use Rattle.blocks.specs.Blocks.{ecb}
 use Rattle.sheet.specs.Frame.{streamSize, streamOf, pairOf}
-use Rattle.sheet.specs.Sheet.{least, rounded, sealedSize, openRules, sealRules, sheetKey, sealing, opening, packageOf, filledWith, sealingOf}
+use Rattle.sheet.specs.Sheet.{fillingFor, rounded, sealedSize, openRules, sealRules, sheetKey, sealing, opening, packageOf, filledWith, sealingOf}
 use Rattle.sheet.specs.Sheet.{left, reply, ended, opened, sealed}
 use Rattle.sheet.proofs.Laws.{verdict-numbered, open-numbered, open-answer, seal-numbered, seal-answer}
 use Rattle.promises.specs.Words.{publishedKey}
@@ -45,15 +46,15 @@ module _ (info password : List ℕ) where
       ap (λ (n : ℕ). ended n (streamSize s) (packageOf info password s) out)
       (none-broken (openRules info password s (length out)) (open-numbered info password s out) .1 h)
 
-  seal-gives : (pack given out : List ℕ) → AllHold (sealRules info password (length pack) (length out))
-      → let filling : ℕ = least (length pack) in
+  seal-gives : (pack given : List ℕ) (extra : Bool) (out : List ℕ) → AllHold (sealRules info password extra (length pack) (length out))
+      → let filling : ℕ = fillingFor extra (length pack) in
       let size : ℕ = 8 + (length pack + filling) in
       let stream : List ℕ = leBytes 8 (length pack) ++ ecb (encryption (publishedKey info password)) (pack ++ take filling given) in
-      sealed info password pack given out ≡ left (reply 0 size) (stream ++ replicate (length out - size) 0)
+      sealed info password pack given extra out ≡ left (reply 0 size) (stream ++ replicate (length out - size) 0)
   unfolding sealed ended sealedSize rounded sealingOf streamOf filledWith sealing sheetKey keyOf described
-  seal-gives pack given out h =
-      ap (λ (n : ℕ). ended n (sealedSize (length pack)) (sealingOf info password (filledWith pack given)) out)
-      (none-broken (sealRules info password (length pack) (length out)) (seal-numbered info password pack given out) .1 h)
+  seal-gives pack given extra out h =
+      ap (λ (n : ℕ). ended n (sealedSize extra (length pack)) (sealingOf info password (filledWith pack given extra)) out)
+      (none-broken (sealRules info password extra (length pack) (length out)) (seal-numbered info password pack given extra out) .1 h)
 
 pub demand-2 : Demand2 parsed judged opened sealed
 unfolding judged
@@ -63,11 +64,11 @@ demand-2 =
       verdict-answer = λ info password. by-rules (verdictRules info password) (verdict-numbered info password);
       open-answer = λ info password s out.
           rw (open-answer info password s out) (by-rules (openRules info password s (length out)) (open-numbered info password s out));
-      seal-answer = λ info password pack given out g.
-          rw (seal-answer info password pack given out)
-          (by-rules (sealRules info password (length pack) (length out)) (seal-numbered info password pack given out));
+      seal-answer = λ info password pack given extra out g.
+          rw (seal-answer info password pack given extra out)
+          (by-rules (sealRules info password extra (length pack) (length out)) (seal-numbered info password pack given extra out));
       descriptor = λ info h. parsed-fields info (none-broken (infoRules info) (info-numbered info) .1 h);
       verdict = λ info password. (λ h. to-verdict info password h, λ h. of-verdict info password h);
       opening = λ info password s out h. open-gives info password s out h;
-      sealing = λ info password pack given out g h. seal-gives info password pack given out h;
+      sealing = λ info password pack given extra out g h. seal-gives info password pack given extra out h;
     }

@@ -2,6 +2,7 @@
 -- it does on the calls that are to be accepted, whatever it does on others; such calls exist for every size. Assumes nothing.
 use mathlib.Core.Path.{_≡_, refl, sym, ap, _∙_}
 use mathlib.Core.Logic.{inl}
+use mathlib.Core.Bool.{Bool, false}
 use mathlib.Core.List.{List, [], _∷_, _++_, append-nil}
 use Prim.Native.Nat.{ℕ, _-_, _≤_}
 use native.Mathlib.Omega.{arith}
@@ -15,7 +16,7 @@ use Rattle.aes.proofs.Keys.{length-encryption, length-decryption}
 use Rattle.password.specs.Verdict.{judged}
 use Rattle.blocks.specs.Blocks.{block, blocks, ecb}
 use Rattle.sheet.specs.Frame.{streamSize}
-use Rattle.sheet.specs.Sheet.{limit, least, rounded, sealedSize, Left, packageOf, opened, sealed, gives}
+use Rattle.sheet.specs.Sheet.{limit, least, fillingFor, rounded, lengthAllowed, sealedSize, Left, packageOf, opened, sealed, gives}
 use Rattle.sheet.proofs.Lengths.{Openable, openable, Sealable, sealable}
 use Rattle.sheet.proofs.Laws.{open-done, seal-done}
 use Rattle.promises.specs.Words.{Parser, Judge, Opener, Sealer, Accepted, written, publishedKey}
@@ -37,8 +38,8 @@ lock : Locks judged 128 []
 lock = possible .locks 128 (inl refl) [] (lit≤ tt)
 
 module _ (size : ℕ) (h : size ≤ 268435456) where
-  filled : Fills size
-  filled = possible .fills size h
+  filled : Fills false size
+  filled = possible .fills false size h
 
   pack : List ℕ
   pack = filled .it .pack
@@ -79,7 +80,7 @@ module _ (c : List ℕ) (n : length c ≡ 16) where
   single-long = simp (length-append, length-leBytes, n)
 
   single-taken : (info password : List ℕ) → judged info password ≡ 0 → Accepted (opened info password single (replicate 16 0))
-  unfolding limit rounded least
+  unfolding limit lengthAllowed rounded fillingFor least
   single-taken info password v =
       let k : Openable single 16 =
       record {
@@ -91,11 +92,11 @@ module _ (c : List ℕ) (n : length c ≡ 16) where
       ap answer-of (open-done info password single (replicate 16 0) v (openable single 16 .1 k))
 
   -- the package that it is
-  block-taken : (info password : List ℕ) → judged info password ≡ 0 → Accepted (sealed info password c (replicate 16 0) (replicate 24 0))
-  unfolding limit sealedSize rounded least
+  block-taken : (info password : List ℕ) → judged info password ≡ 0 → Accepted (sealed info password c (replicate 16 0) false (replicate 24 0))
+  unfolding limit sealedSize rounded fillingFor least
   block-taken info password v =
-      let k : Sealable (length c) 24 = record { limited = rw n (lit≤ tt); roomy = rw n (lit≤ tt) } in
-      ap answer-of (seal-done info password c (replicate 16 0) (replicate 24 0) v (sealable (length c) 24 .1 k))
+      let k : Sealable false (length c) 24 = record { limited = rw n (lit≤ tt); roomy = rw n (lit≤ tt) } in
+      ap answer-of (seal-done info password c (replicate 16 0) false (replicate 24 0) v (sealable false (length c) 24 .1 k))
 
   ecb-one : (f : List ℕ → List ℕ) → ecb f c ≡ f c
   unfolding ecb blocks block
@@ -115,8 +116,9 @@ OpensBy opens back =
 -- it seals by this operation in place of encryption
 abbrev pub SealsBy : Sealer → ((info password plain : List ℕ) → List ℕ) → Type 0
 SealsBy seals there =
-    (info password pack given out : List ℕ) → length given ≡ 16 → Accepted (sealed info password pack given out)
-    → written (seals info password pack given out) ≡ leBytes 8 (length pack) ++ there info password (pack ++ take (least (length pack)) given)
+    (info password pack given : List ℕ) (extra : Bool) (out : List ℕ) → length given ≡ 16 → Accepted (sealed info password pack given extra out)
+    → written (seals info password pack given extra out)
+    ≡ leBytes 8 (length pack) ++ there info password (pack ++ take (fillingFor extra (length pack)) given)
 
 -- what is left of an output does not depend on what it held
 untold : (l : List ℕ) → ((x : ℕ) → l ≡ x ∷ []) → ⊥
@@ -200,17 +202,17 @@ module _ (parses : Parser) (judges : Judge) (opens : Opener) (seals : Sealer) wh
     pub other-sealing : (there : (info password plain : List ℕ) → List ℕ) → SealsBy seals there
         → (info password b : List ℕ) → judged info password ≡ 0 → length b ≡ 16
         → there info password b ≡ encryption (publishedKey info password) b
-    unfolding least
+    unfolding least fillingFor
     other-sealing there w info password b v n =
         let given : List ℕ = replicate 16 0 in
         let out : List ℕ = replicate 24 0 in
-        let a : Accepted (sealed info password b given out) = block-taken b n info password v in
+        let a : Accepted (sealed info password b given false out) = block-taken b n info password v in
         let cipher : List ℕ = encryption (publishedKey info password) b in
         let whole : length (leBytes 8 16 ++ cipher) ≡ 24 = simp (length-append, length-leBytes, length-encryption) in
-        let theirs : written (seals info password b given out) ≡ leBytes 8 16 ++ there info password b =
-        w info password b given out refl a ∙ rw (n, append-nil) in
-        let ours : written (seals info password b given out) ≡ leBytes 8 16 ++ cipher =
-        ap written (two .sealing info password b given out refl (demand-2 .seal-answer info password b given out refl .none .0 a))
+        let theirs : written (seals info password b given false out) ≡ leBytes 8 16 ++ there info password b =
+        w info password b given false out refl a ∙ rw (n, append-nil) in
+        let ours : written (seals info password b given false out) ≡ leBytes 8 16 ++ cipher =
+        ap written (two .sealing info password b given false out refl (demand-2 .seal-answer info password b given false out refl .none .0 a))
         ∙ rw (n, append-nil b, ecb-one b n (encryption (publishedKey info password))) (take-at (leBytes 8 16 ++ cipher) [] 24 whole) in
         sym (drop-at (leBytes 8 16) (there info password b) 8 (length-leBytes 8 16))
         ∙ ap (drop 8) (sym theirs ∙ ours)

@@ -1,6 +1,7 @@
 -- The cases P1 to P12 of 01 ("The package stream"), as one list, and what each row claims of a parser, a judge, an opener and a sealer.
 -- Assumes nothing.
 use mathlib.Core.Path.{_≡_}
+use mathlib.Core.Bool.{Bool, true, false}
 use mathlib.Core.List.{List, [], _∷_, _++_}
 use Prim.Native.Nat.{ℕ, _-_, _≤_}
 use lib.ListN.{length, take, replicate}
@@ -26,8 +27,10 @@ f is v = record { field = f; value = v }
 
 -- a row
 pub data Case : Type 0 where
-  -- a package of `size` bytes seals into a stream of so many, and uses so many bytes of filling
+  -- a package of `size` bytes, whatever is chosen, seals into a stream of so many, and uses so many bytes of filling
   seals : (size stream filling : ℕ) → Case
+  -- the same with this choice of an extra block
+  chooses : (extra : Bool) (size stream filling : ℕ) → Case
   -- a package of `size` bytes gets this answer, in sealing and in opening
   refuses : (size answer : ℕ) → Case
   -- EncryptionInfo with these facts gets this answer
@@ -44,8 +47,10 @@ table =
     ∷ seals 15 24 1  -- P3
     ∷ seals 16 24 0  -- P4
     ∷ seals 17 40 15  -- P5
-    ∷ seals 4096 4104 0  -- P6
-    ∷ seals 268435456 268435464 0  -- P7
+    ∷ chooses false 4096 4104 0  -- P6
+    ∷ chooses true 4096 4120 16
+    ∷ chooses false 268435456 268435464 0  -- P7
+    ∷ chooses true 268435456 268435480 16
     ∷ refuses 268435457 14
     ∷ passes (headerSize is 32 ∷ length is 116 ∷ []) 3 4  -- P8
     ∷ answers (headerSize is 32 ∷ length is 115 ∷ []) 4
@@ -75,14 +80,20 @@ abbrev pub Outside : (low high n : ℕ) → Type 0
 Outside low high n = low ≤ n → n ≤ high → ⊥
 
 module _ (parses : Parser) (judges : Judge) (opens : Opener) (sealer : Sealer) where
-  abbrev pub Claim : Case → Type 0
-  Claim (seals size stream filling) =
+  -- with this choice a package of `size` bytes seals into a stream of so many, and uses so many bytes of filling
+  abbrev pub Into : (extra : Bool) (size stream filling : ℕ) → Type 0
+  Into extra size stream filling =
       (info password pack given out : List ℕ) → judges info password ≡ 0 → length pack ≡ size → length given ≡ 16 → stream ≤ length out
       → let content : List ℕ = leBytes 8 size ++ ecb (encryption (publishedKey info password)) (pack ++ take filling given) in
-      sealer info password pack given out ≡ left (reply 0 stream) (content ++ replicate (length out - stream) 0)
+      sealer info password pack given extra out ≡ left (reply 0 stream) (content ++ replicate (length out - stream) 0)
+
+  abbrev pub Claim : Case → Type 0
+  Claim (seals size stream filling) = (extra : Bool) → Into extra size stream filling
+  Claim (chooses extra size stream filling) = Into extra size stream filling
   Claim (refuses size answer) =
       (info password : List ℕ) → judges info password ≡ 0
-      → ((pack given out : List ℕ) → length pack ≡ size → length given ≡ 16 → sealer info password pack given out ≡ left (reply answer 0) out)
+      → ((pack given : List ℕ) (extra : Bool) (out : List ℕ) → length pack ≡ size → length given ≡ 16
+      → sealer info password pack given extra out ≡ left (reply answer 0) out)
       × ((stream out : List ℕ) → 8 ≤ length stream → streamSize stream ≡ size → opens info password stream out ≡ left (reply answer 0) out)
   Claim (answers facts answer) = (info : List ℕ) → Fits info facts → Before answer info → parses info .answer ≡ answer
   Claim (passes facts low high) = (info : List ℕ) → Fits info facts → Before low info → Outside low high (parses info .answer)

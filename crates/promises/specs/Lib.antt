@@ -5,3 +5,4 @@ pub mod Three
 pub mod Cases
 pub mod Possible
 pub mod NewInfo
+pub mod ExtraBlock

@@ -86,6 +86,6 @@ pub record NewInfo (writes : Writer) (parses : Parser) (judges : Judge) (opens :
   pub size : (i : Input) (out : List ℕ) → Typed i → Accepted (writes i out) → writes i out .reply .size ≡ 116 + length (i .name)
   -- everything can be read again
   pub back : (i : Input) (out : List ℕ) → Typed i → Accepted (writes i out) → GivesBack parses judges i (written (writes i out))
-  -- and every package, with every filling of its last block, seals under it into a stream that opens to that package
+  -- and every package, with every filling of an allowed length, seals under it into a stream that opens to that package
   pub opening : (i : Input) (out : List ℕ) → Typed i → Accepted (writes i out)
       → (p : Pair) → Lawful lengths p → Round opens seals (written (writes i out)) (i .password) p

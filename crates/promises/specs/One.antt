@@ -2,6 +2,7 @@
 -- acceptance leaves exactly what it names, of `size` bytes, and zeros from there to the end of the output, whatever it held before.
 -- Assumes nothing.
 use mathlib.Core.Path.{_≡_}
+use mathlib.Core.Bool.{Bool}
 use mathlib.Core.List.{List, [], _∷_, _++_}
 use Prim.Native.Nat.{ℕ, _-_, _≤_}
 use lib.ListN.{length, replicate}
@@ -56,6 +57,6 @@ pub record Demand1 (parses : Parser) (judges : Judge) (opens : Opener) (seals : 
   pub judging : (info password : List ℕ) → OneOf verdictNumbers (judges info password)
   -- what is written is the package of the stream
   pub opening : (info password stream out : List ℕ) → Call openNumbers (packageOf info password stream) out (opens info password stream out)
-  -- what is written is the stream of the package, filled with the first of the sixteen bytes
-  pub sealing : (info password pack given out : List ℕ) → length given ≡ 16
-      → Call sealNumbers (sealingOf info password (filledWith pack given)) out (seals info password pack given out)
+  -- what is written is the stream of the package, filled with the first of the sixteen bytes, with an extra block or without
+  pub sealing : (info password pack given : List ℕ) (extra : Bool) (out : List ℕ) → length given ≡ 16
+      → Call sealNumbers (sealingOf info password (filledWith pack given extra)) out (seals info password pack given extra out)

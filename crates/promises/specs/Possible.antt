@@ -1,7 +1,8 @@
 -- None of the promises holds for want of an instance: what each of them takes for granted can be had. Assumes nothing.
 use mathlib.Core.Path.{_≡_}
+use mathlib.Core.Bool.{Bool}
 use mathlib.Core.List.{List, [], _∷_}
-use Prim.Native.Nat.{ℕ, _≤_}
+use Prim.Native.Nat.{ℕ, _%_, _≤_, _<_}
 use lib.ListN.{length}
 use Rattle.octets.specs.Octets.{Bytes}
 use Rattle.answers.specs.Rules.{OneOf}
@@ -10,7 +11,8 @@ use Rattle.sheet.specs.Frame.{Pair, Lawful, streamSize}
 use Rattle.sheet.specs.Sheet.{lengths}
 use Rattle.promises.specs.Words.{Parser, Judge}
 use Rattle.promises.specs.Three.{Begins}
-use Rattle.promises.specs.Cases.{Case, seals, refuses, answers, passes, names, table, Fits, Before}
+use Rattle.promises.specs.ExtraBlock.{Takes}
+use Rattle.promises.specs.Cases.{Case, seals, chooses, refuses, answers, passes, names, table, Fits, Before}
 
 -- an EncryptionInfo whose key has so many bits, and which accepts the password
 pub record Locks (judges : Judge) (bits : ℕ) (password : List ℕ) : Type 0 where
@@ -19,13 +21,26 @@ pub record Locks (judges : Judge) (bits : ℕ) (password : List ℕ) : Type 0 wh
   pub size : keySize info ≡ bits
   pub verdict : judges info password ≡ 0
 
--- a lawful pair whose package has so many bytes, and a value that begins with its filling
-pub record Fills (size : ℕ) : Type 0 where
+-- a lawful pair whose package has so many bytes, and a value that begins with its filling, with this choice
+pub record Fills (extra : Bool) (size : ℕ) : Type 0 where
   pub it : Pair
   pub lawful : Lawful lengths it
   pub sized : length (it .pack) ≡ size
   pub given : List ℕ
-  pub begins : Begins it given
+  pub begins : Begins it given extra
+
+-- a value and a choice that begin with a pair's filling
+pub record Begun (p : Pair) : Type 0 where
+  pub given : List ℕ
+  pub extra : Bool
+  pub begins : Begins p given extra
+
+-- a package of so many bytes that takes an extra block, and sixteen bytes to fill it
+pub record Extra (size : ℕ) : Type 0 where
+  pub pack : List ℕ
+  pub sized : length pack ≡ size
+  pub given : List ℕ
+  pub takes : Takes pack given
 
 -- a list of so many bytes
 pub record Long (n : ℕ) : Type 0 where
@@ -43,7 +58,8 @@ pub record Told (size : ℕ) : Type 0 where
 module _ (parses : Parser) where
   -- what a row of the table takes for granted, beside an accepted password; where it speaks of a name, nothing objects
   abbrev pub Instance : Case → Type 0
-  Instance (seals size stream filling) = Fills size × Long stream
+  Instance (seals size stream filling) = (extra : Bool) → Fills extra size × Long stream
+  Instance (chooses extra size stream filling) = Fills extra size × Long stream
   Instance (refuses size answer) = Long size × Told size
   Instance (answers facts answer) = (info : List ℕ) × Fits info facts × Before answer info
   Instance (passes facts low high) = (info : List ℕ) × Fits info facts × Before low info
@@ -56,7 +72,11 @@ module _ (parses : Parser) where
 pub record Possible (parses : Parser) (judges : Judge) : Type 0 where
   -- for each key size, every password of at most 255 units is accepted by some EncryptionInfo
   pub locks : (bits : ℕ) → OneOf (128 ∷ 192 ∷ 256 ∷ []) bits → (password : List ℕ) → length password ≤ 255 → Locks judges bits password
-  -- every size within the limit is that of some pair
-  pub fills : (size : ℕ) → size ≤ 268435456 → Fills size
+  -- every size within the limit is that of some pair, with each choice
+  pub fills : (extra : Bool) (size : ℕ) → size ≤ 268435456 → Fills extra size
+  -- every lawful pair can be asked for
+  pub begun : (p : Pair) → Lawful lengths p → Begun p
+  -- every multiple of 4,096 above 0 and within the limit is the size of a package that takes an extra block
+  pub extra : (size : ℕ) → 0 < size → size % 4096 ≡ 0 → size ≤ 268435456 → Extra size
   -- every row of the table P1 to P12 has an instance
   pub rows : Instances parses table

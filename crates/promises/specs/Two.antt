@@ -3,6 +3,7 @@
 -- `verdictRules` (to 12), `openRules` (to 16) and `sealRules` (to 12, then 14 and 16). Assumes nothing.
 use mathlib.Core.Path.{_≡_}
 use mathlib.Core.Logic.{_↔_}
+use mathlib.Core.Bool.{Bool}
 use mathlib.Core.List.{List, _++_}
 use Prim.Native.Nat.{ℕ, _+_, _-_, _≤_}
 use lib.ListN.{length, take, drop, replicate}
@@ -13,7 +14,7 @@ use Rattle.aes.specs.Aes.{encryption, decryption}
 use Rattle.descriptor.specs.Info.{infoRules, described, encryptedVerifier, encryptedVerifierHash}
 use Rattle.password.specs.Verdict.{verdictRules}
 use Rattle.blocks.specs.Blocks.{ecb}
-use Rattle.sheet.specs.Sheet.{left, reply, least, openRules, sealRules}
+use Rattle.sheet.specs.Sheet.{left, reply, fillingFor, openRules, sealRules}
 use Rattle.promises.specs.Words.{Parser, Judge, Opener, Sealer, Answers, publishedKey}
 
 -- the hash of the decrypted verifier is the first 20 of the 32 bytes of the decrypted verifier hash
@@ -28,8 +29,8 @@ pub record Demand2 (parses : Parser) (judges : Judge) (opens : Opener) (seals : 
   pub verdict-answer : (info password : List ℕ) → Answers (verdictRules info password) (judges info password)
   pub open-answer : (info password stream out : List ℕ)
       → Answers (openRules info password stream (length out)) (opens info password stream out .reply .answer)
-  pub seal-answer : (info password pack given out : List ℕ) → length given ≡ 16
-      → Answers (sealRules info password (length pack) (length out)) (seals info password pack given out .reply .answer)
+  pub seal-answer : (info password pack given : List ℕ) (extra : Bool) (out : List ℕ) → length given ≡ 16
+      → Answers (sealRules info password extra (length pack) (length out)) (seals info password pack given extra out .reply .answer)
   -- the descriptor is what the stream says
   pub descriptor : (info : List ℕ) → AllHold (infoRules info) → parses info .fields ≡ described info
   -- a password is accepted exactly where the descriptor is admitted and the password, not too long, matches the verifier
@@ -41,8 +42,9 @@ pub record Demand2 (parses : Parser) (judges : Judge) (opens : Opener) (seals : 
       let plain : List ℕ = ecb (decryption (publishedKey info password)) (drop 8 stream) in
       opens info password stream out ≡ left (reply 0 size) (take size plain ++ replicate (length out - size) 0)
   -- the sealed stream is the size in eight bytes, then package and filling encrypted block by block
-  pub sealing : (info password pack given out : List ℕ) → length given ≡ 16 → AllHold (sealRules info password (length pack) (length out))
-      → let filling : ℕ = least (length pack) in
+  pub sealing : (info password pack given : List ℕ) (extra : Bool) (out : List ℕ) → length given ≡ 16
+      → AllHold (sealRules info password extra (length pack) (length out))
+      → let filling : ℕ = fillingFor extra (length pack) in
       let size : ℕ = 8 + (length pack + filling) in
       let stream : List ℕ = leBytes 8 (length pack) ++ ecb (encryption (publishedKey info password)) (pack ++ take filling given) in
-      seals info password pack given out ≡ left (reply 0 size) (stream ++ replicate (length out - size) 0)
+      seals info password pack given extra out ≡ left (reply 0 size) (stream ++ replicate (length out - size) 0)

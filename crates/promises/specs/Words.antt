@@ -2,6 +2,7 @@
 -- made by ours, `parsed`, `judged`, `opened` and `sealed`, or asked of any other. Assumes nothing.
 use mathlib.Core.Path.{_≡_}
 use mathlib.Core.Logic.{_↔_}
+use mathlib.Core.Bool.{Bool}
 use mathlib.Core.List.{List}
 use Prim.Native.Nat.{ℕ, _/_, _<_}
 use lib.ListN.{take}
@@ -25,9 +26,9 @@ Judge = (info password : List ℕ) → ℕ
 abbrev pub Opener : Type 0
 Opener = (info password stream out : List ℕ) → Left
 
--- the same from a package, and sixteen bytes given to fill its last block
+-- the same from a package, sixteen bytes given to fill its last block, and the choice of an extra one
 abbrev pub Sealer : Type 0
-Sealer = (info password pack given out : List ℕ) → Left
+Sealer = (info password pack given : List ℕ) (extra : Bool) (out : List ℕ) → Left
 
 -- ---- what is said of them
 

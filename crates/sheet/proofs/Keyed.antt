@@ -18,7 +18,7 @@ use Rattle.blocks.proofs.Aes.{aes-ecb-reversible, encrypting-expanded, decrypti
 use Rattle.sheet.specs.Frame.{Sound, Inverse}
 use Rattle.sheet.specs.Sheet.{limit, lengths, sheetKey, sealing, opening}
 use Rattle.sheet.proofs.Frame.{inverse}
-use Rattle.sheet.proofs.Lengths.{allowed-whole}
+use Rattle.sheet.proofs.Fillings.{allowed-whole}
 
 module _ (info p : List ℕ) (v : judged info p ≡ 0) where
   pub key-fits : keyLength (length (sheetKey info p)) ≡ true

@@ -1,10 +1,10 @@
 -- The ways out of opening and sealing, a law for each: a refusal by the verdict, a refusal by what is opened or sealed, and the
 -- content. Assumes nothing.
 use mathlib.Core.Path.{_≡_, refl, sym, ap, _∙_}
+use mathlib.Core.Bool.{Bool}
 use mathlib.Core.List.{List, _++_}
 use Prim.Native.Nat.{ℕ, zero, suc, _+_, _-_, _≤_}
 use native.Mathlib.Omega.{arith}
-use borrow.Author.Tests.{eq-eqb, eqb-true}
 use lib.Dec.{T}
 use lib.ListN.{length, take, drop, replicate, length-append}
 use lib.Seq.{length-take-le}
@@ -17,8 +17,9 @@ use Rattle.password.specs.Verdict.{judged, verdictRules, passwordRules}
 use Rattle.descriptor.specs.Info.{infoRules}
 use Rattle.blocks.proofs.Aes.{length-encrypted, length-decrypted}
 use Rattle.sheet.specs.Frame.{Pair, pair, streamSize, streamOf, pairOf, Lawful}
-use Rattle.sheet.specs.Sheet.{limit, least, rounded, allowed, lengths, sealedSize, streamRules, packRules, openRules, sealRules, sheetKey, sealing, opening, packageOf, filledWith, sealingOf, left, reply, ended, opened, sealed}
-use Rattle.sheet.proofs.Lengths.{Openable, openable, Sealable, sealable, openable-blocks, least-below}
+use Rattle.sheet.specs.Sheet.{limit, fillingFor, rounded, allowed, lengths, sealedSize, streamRules, packRules, openRules, sealRules, sheetKey, sealing, opening, packageOf, filledWith, sealingOf, left, reply, ended, opened, sealed}
+use Rattle.sheet.proofs.Fillings.{filling-most, rounded-whole, rounded-allowed, allowed-rounded}
+use Rattle.sheet.proofs.Lengths.{Openable, openable, Sealable, sealable, openable-blocks}
 
 -- ---- how a call ends
 
@@ -86,46 +87,52 @@ module _ (info password : List ℕ) where
         let z = both-zero (verdictRules info password) (streamRules s (length out)) verdict-numbered (sym open-answer ∙ h) in
         (z .0, openable s (length out) .0 (z .1))
 
-  module _ (pack given out : List ℕ) where
-    pub seal-numbered : T (numbered (sealRules info password (length pack) (length out)))
+  module _ (pack given : List ℕ) (extra : Bool) (out : List ℕ) where
+    pub seal-numbered : T (numbered (sealRules info password extra (length pack) (length out)))
     unfolding sealRules verdictRules infoRules passwordRules packRules
     seal-numbered = tt
 
     abbrev stream : List ℕ
-    stream = sealingOf info password (filledWith pack given)
+    stream = sealingOf info password (filledWith pack given extra)
 
-    pub seal-answer : sealed info password pack given out .reply .answer ≡ firstOf (sealRules info password (length pack) (length out))
+    pub seal-answer : sealed info password pack given extra out .reply .answer ≡ firstOf (sealRules info password extra (length pack) (length out))
     unfolding sealed
-    seal-answer = ended-answer _ (sealedSize (length pack)) stream out
+    seal-answer = ended-answer _ (sealedSize extra (length pack)) stream out
 
-    pub seal-by-verdict : (judged info password ≡ 0 → ⊥) → sealed info password pack given out ≡ left (reply (judged info password) 0) out
+    pub seal-by-verdict : (judged info password ≡ 0 → ⊥) → sealed info password pack given extra out ≡ left (reply (judged info password) 0) out
     unfolding sealed sealRules judged
-    seal-by-verdict = by-first (verdictRules info password) (packRules (length pack) (length out)) (sealedSize (length pack)) stream out
+    seal-by-verdict = by-first (verdictRules info password) (packRules extra (length pack) (length out)) (sealedSize extra (length pack)) stream out
 
     module _ (v : judged info password ≡ 0) where
-      pub seal-by-pack : (firstOf (packRules (length pack) (length out)) ≡ 0 → ⊥)
-          → sealed info password pack given out ≡ left (reply (firstOf (packRules (length pack) (length out))) 0) out
+      pub seal-by-pack : (firstOf (packRules extra (length pack) (length out)) ≡ 0 → ⊥)
+          → sealed info password pack given extra out ≡ left (reply (firstOf (packRules extra (length pack) (length out))) 0) out
       unfolding sealed sealRules judged
-      seal-by-pack = by-second (verdictRules info password) (packRules (length pack) (length out)) (sealedSize (length pack)) stream out verdict-numbered v
+      seal-by-pack = by-second (verdictRules info password) (packRules extra (length pack) (length out)) (sealedSize extra (length pack)) stream out verdict-numbered v
 
-      pub seal-done : firstOf (packRules (length pack) (length out)) ≡ 0
-          → sealed info password pack given out
-          ≡ left (reply 0 (sealedSize (length pack))) (sealingOf info password (filledWith pack given) ++ replicate (length out - sealedSize (length pack)) 0)
+      pub seal-done : firstOf (packRules extra (length pack) (length out)) ≡ 0
+          → sealed info password pack given extra out
+          ≡ left (reply 0 (sealedSize extra (length pack))) (sealingOf info password (filledWith pack given extra) ++ replicate (length out - sealedSize extra (length pack)) 0)
       unfolding sealed sealRules judged
-      seal-done = by-none (verdictRules info password) (packRules (length pack) (length out)) (sealedSize (length pack)) stream out verdict-numbered v
+      seal-done = by-none (verdictRules info password) (packRules extra (length pack) (length out)) (sealedSize extra (length pack)) stream out verdict-numbered v
 
     -- an accepted call: the verdict is 0, and the package fits
-    pub seal-zero : sealed info password pack given out .reply .answer ≡ 0 → (judged info password ≡ 0) × Sealable (length pack) (length out)
+    pub seal-zero : sealed info password pack given extra out .reply .answer ≡ 0 → (judged info password ≡ 0) × Sealable extra (length pack) (length out)
     unfolding sealRules judged
     seal-zero h =
-        let z = both-zero (verdictRules info password) (packRules (length pack) (length out)) verdict-numbered (sym seal-answer ∙ h) in
-        (z .0, sealable (length pack) (length out) .0 (z .1))
+        let z = both-zero (verdictRules info password) (packRules extra (length pack) (length out)) verdict-numbered (sym seal-answer ∙ h) in
+        (z .0, sealable extra (length pack) (length out) .0 (z .1))
 
     -- of the bytes given only the filling counts
-    pub seal-alike : (other : List ℕ) → take (least (length pack)) given ≡ take (least (length pack)) other
-        → sealed info password pack given out ≡ sealed info password pack other out
+    pub seal-alike : (other : List ℕ) → take (fillingFor extra (length pack)) given ≡ take (fillingFor extra (length pack)) other
+        → sealed info password pack given extra out ≡ sealed info password pack other extra out
     unfolding sealed filledWith
     seal-alike other e = rw e
+
+    -- and the choice only through the filling's length
+    pub seal-by-length : (other : Bool) → fillingFor extra (length pack) ≡ fillingFor other (length pack)
+        → sealed info password pack given extra out ≡ sealed info password pack given other out
+    unfolding sealed filledWith sealRules packRules sealedSize rounded
+    seal-by-length other e = rw e
 
   -- ---- how long the content is
 
@@ -137,36 +144,45 @@ module _ (info password : List ℕ) where
   unfolding packageOf pairOf
   length-package s room k = length-take-le (streamSize s) (opening info password (drop 8 s)) (package-held s room k)
 
-  pub length-ciphertext : (p : Pair) → length (p .fill) ≡ least (length (p .pack)) → length (sealing info password (p .pack ++ p .fill)) ≡ rounded (length (p .pack))
-  unfolding sealing rounded least
-  length-ciphertext p f =
-      let n : length (p .pack ++ p .fill) ≡ length (p .pack) + length (p .fill) = length-append (p .pack) (p .fill) in
-      omega (arith, length-encrypted (sheetKey info password) (p .pack ++ p .fill))
+  module _ (p : Pair) (extra : Bool) (f : length (p .fill) ≡ fillingFor extra (length (p .pack))) where
+    pub length-ciphertext : length (sealing info password (p .pack ++ p .fill)) ≡ rounded extra (length (p .pack))
+    unfolding sealing rounded
+    length-ciphertext =
+        let n : length (p .pack ++ p .fill) ≡ length (p .pack) + length (p .fill) = length-append (p .pack) (p .fill) in
+        omega (arith, length-encrypted (sheetKey info password) (p .pack ++ p .fill), rounded-whole extra (length (p .pack)))
 
-  pub length-sealing : (p : Pair) → length (p .fill) ≡ least (length (p .pack)) → length (sealingOf info password p) ≡ sealedSize (length (p .pack))
-  unfolding sealingOf streamOf sealedSize
-  length-sealing p f = simp (length-append, length-leBytes, length-ciphertext p f)
+    pub length-sealing : length (sealingOf info password p) ≡ sealedSize extra (length (p .pack))
+    unfolding sealingOf streamOf sealedSize
+    length-sealing = simp (length-append, length-leBytes, length-ciphertext)
 
 -- ---- the filling
 
-module _ (pack given : List ℕ) (h : length given ≡ 16) where
+module _ (pack given : List ℕ) (extra : Bool) (h : length given ≡ 16) where
   -- sixteen bytes are enough
-  pub length-filling : length (filledWith pack given .fill) ≡ least (length pack)
+  pub length-filling : length (filledWith pack given extra .fill) ≡ fillingFor extra (length pack)
   unfolding filledWith
-  length-filling = length-take-le (least (length pack)) given (omega (arith, least-below (length pack)))
+  length-filling = length-take-le (fillingFor extra (length pack)) given (omega (arith, filling-most extra (length pack)))
 
   -- what a call seals is a lawful pair
-  pub filled-lawful : Bytes pack → Bytes given → length pack ≤ limit → Lawful lengths (filledWith pack given)
-  unfolding lengths allowed filledWith
+  pub filled-lawful : Bytes pack → Bytes given → length pack ≤ limit → Lawful lengths (filledWith pack given extra)
+  unfolding lengths allowed rounded filledWith
   filled-lawful b c l =
-      record { pack-bytes = b; fill-bytes = take-below (least (length pack)) given c; limited = l; filled = eq-eqb _ _ length-filling }
+      record {
+        pack-bytes = b;
+        fill-bytes = take-below (fillingFor extra (length pack)) given c;
+        limited = l;
+        filled = rw length-filling (rounded-allowed extra (length pack));
+      }
 
-module _ (p : Pair) (w : Lawful lengths p) where
-  pub filling-least : length (p .fill) ≡ least (length (p .pack))
-  unfolding lengths allowed
-  filling-least = eqb-true _ _ (w .filled)
+-- a lawful pair's filling is as long as one choice makes it
+pub filling-chosen : (p : Pair) → Lawful lengths p → (extra : Bool) × (length (p .fill) ≡ fillingFor extra (length (p .pack)))
+unfolding lengths allowed rounded
+filling-chosen p w =
+    let k = allowed-rounded (length (p .pack)) (length (p .pack) + length (p .fill)) (w .filled) in
+    (k .0, omega (arith, k .1))
 
-  -- bytes that begin with a pair's filling give the pair
-  pub filled-begins : (given : List ℕ) → take (length (p .fill)) given ≡ p .fill → filledWith (p .pack) given ≡ p
-  unfolding filledWith
-  filled-begins given e = ap (pair (p .pack)) (ap (λ (n : ℕ). take n given) (sym filling-least) ∙ e)
+-- bytes that begin with a pair's filling give the pair, with that choice
+pub filled-begins : (p : Pair) (given : List ℕ) (extra : Bool) → length (p .fill) ≡ fillingFor extra (length (p .pack)) → take (length (p .fill)) given ≡ p .fill
+    → filledWith (p .pack) given extra ≡ p
+unfolding filledWith
+filled-begins p given extra f e = ap (pair (p .pack)) (ap (λ (n : ℕ). take n given) (sym f) ∙ e)

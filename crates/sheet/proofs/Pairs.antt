@@ -1,6 +1,7 @@
 -- Under an accepted password each lawful pair seals into a stream that opens to its package, and each stream that opens is the
 -- sealing of its own pair and of no other: the frame's inverse, said of the calls. Assumes nothing.
 use mathlib.Core.Path.{_≡_, ap, _∙_}
+use mathlib.Core.Bool.{Bool}
 use mathlib.Core.List.{List}
 use Prim.Native.Nat.{ℕ, _≤_}
 use native.Mathlib.Omega.{arith}
@@ -9,10 +10,10 @@ use Rattle.octets.specs.Octets.{Bytes}
 use Rattle.password.specs.Verdict.{judged}
 use Rattle.blocks.specs.Blocks.{whole}
 use Rattle.sheet.specs.Frame.{Pair, Lawful, Admitted, streamSize, pairOf}
-use Rattle.sheet.specs.Sheet.{lengths, sealedSize, sealing, opening, packageOf, sealingOf, gives, opened, sealed}
+use Rattle.sheet.specs.Sheet.{lengths, fillingFor, sealedSize, sealing, opening, packageOf, sealingOf, gives, opened, sealed}
 use Rattle.sheet.proofs.Frame.{size-streamOf, one-pair}
 use Rattle.sheet.proofs.Lengths.{openable, openable-admitted, admitted-openable, sealable}
-use Rattle.sheet.proofs.Laws.{open-done, open-zero, seal-done, length-sealing, filling-least, filled-begins}
+use Rattle.sheet.proofs.Laws.{open-done, open-zero, seal-done, length-sealing, filled-begins}
 use Rattle.sheet.proofs.Keyed.{sound, inverted}
 
 module _ (info password : List ℕ) (v : judged info password ≡ 0) where
@@ -29,14 +30,15 @@ module _ (info password : List ℕ) (v : judged info password ≡ 0) where
     unfolding packageOf sealingOf
     stream-package = ap (λ (q : Pair). q .pack) (inverted info password v .pair-again p w)
 
-    -- a pair seals, given room, with any bytes that begin with its filling
-    pub pair-seals : (given out : List ℕ) → take (length (p .fill)) given ≡ p .fill → length (sealingOf info password p) ≤ length out
-        → sealed info password (p .pack) given out ≡ gives (sealingOf info password p) out
+    -- a pair seals, given room, with any bytes that begin with its filling and the choice that makes it so long
+    pub pair-seals : (given : List ℕ) (extra : Bool) (out : List ℕ) → length (p .fill) ≡ fillingFor extra (length (p .pack))
+        → take (length (p .fill)) given ≡ p .fill → length (sealingOf info password p) ≤ length out
+        → sealed info password (p .pack) given extra out ≡ gives (sealingOf info password p) out
     unfolding lengths
-    pair-seals given out b h =
-        let n : length (sealingOf info password p) ≡ sealedSize (length (p .pack)) = length-sealing info password p (filling-least p w) in
-        seal-done info password (p .pack) given out v (sealable (length (p .pack)) (length out) .1 (record { limited = w .limited; roomy = omega arith }))
-        ∙ rw (filled-begins p w given b, n)
+    pair-seals given extra out f b h =
+        let n : length (sealingOf info password p) ≡ sealedSize extra (length (p .pack)) = length-sealing info password p extra f in
+        let k = sealable extra (length (p .pack)) (length out) .1 (record { limited = w .limited; roomy = omega arith }) in
+        seal-done info password (p .pack) given extra out v k ∙ rw (filled-begins p given extra f b, n)
 
     -- and its stream opens, given room, to its package
     pub stream-opens : (out : List ℕ) → length (p .pack) ≤ length out → opened info password (sealingOf info password p) out ≡ gives (p .pack) out

@@ -1,5 +1,6 @@
 -- What a call that is not refused writes: the content laid in the output, and zeros from where it ends. Assumes nothing.
 use mathlib.Core.Path.{_≡_, refl, sym, ap, _∙_}
+use mathlib.Core.Bool.{Bool}
 use mathlib.Core.List.{List, _++_}
 use Prim.Native.Nat.{ℕ, _+_, _-_, _≤_}
 use native.Mathlib.Nat.{zero-add}
@@ -14,7 +15,7 @@ use Rattle.password.specs.Verdict.{judged, unlocked}
 use Rattle.password.specs.declared.Unlocked.{Unlocked}
 use Rattle.blocks.specs.Blocks.{ecb, encrypting, decrypting}
 use Rattle.sheet.specs.Frame.{Pair, pairOf, streamOf, streamSize}
-use Rattle.sheet.specs.Sheet.{least, rounded, sealedSize, streamRules, packRules, sealing, opening, packageOf, sealingOf, filledWith, left, reply, opened, sealed}
+use Rattle.sheet.specs.Sheet.{fillingFor, rounded, sealedSize, streamRules, packRules, sealing, opening, packageOf, sealingOf, filledWith, left, reply, opened, sealed}
 use Rattle.sheet.specs.declared.Reply.{Reply}
 use Rattle.sheet.proofs.Lengths.{Openable, openable, Sealable, sealable}
 use Rattle.sheet.proofs.Laws.{open-done, seal-done, package-held, length-ciphertext, length-filling}
@@ -30,9 +31,10 @@ laid d x e r at n end hn hd hx pe pr =
     pr ∙ ap (zeroFrom end) pe ∙ rw (← hn, take-paste d at x n front hx, length-paste d at x n all hx)
 
 -- the package rounded up is filled with the first of the bytes given
-rounded-plain : (pack given : List ℕ) → take (rounded (length pack)) (pack ++ given) ≡ filledWith pack given .pack ++ filledWith pack given .fill
+rounded-plain : (pack given : List ℕ) (extra : Bool)
+    → let q = filledWith pack given extra in take (rounded extra (length pack)) (pack ++ given) ≡ q .pack ++ q .fill
 unfolding rounded filledWith
-rounded-plain pack given = take-append-add pack given (least (length pack))
+rounded-plain pack given extra = take-append-add pack given (fillingFor extra (length pack))
 
 module _ (info p : List ℕ) (v : judged info p ≡ 0) (u : Unlocked) (e : u ≡ unlocked info p) where
   -- opening: the package
@@ -52,23 +54,24 @@ module _ (info p : List ℕ) (v : judged info p ≡ 0) (u : Unlocked) (e : u ≡
       rw (d .0, w, z) (sym (open-done info p s out v k))
 
   -- sealing: eight bytes of size, and the ciphertext
-  pub seal-written : (pack given out first mid end : List ℕ) (n : ℕ) (r : Reply) → firstOf (packRules (length pack) (length out)) ≡ 0 → length given ≡ 16
-      → n ≡ rounded (length pack) → first ≡ paste out 0 (leBytes 8 (length pack)) 8
+  pub seal-written : (pack given : List ℕ) (extra : Bool) (out first mid end : List ℕ) (n : ℕ) (r : Reply)
+      → firstOf (packRules extra (length pack) (length out)) ≡ 0 → length given ≡ 16
+      → n ≡ rounded extra (length pack) → first ≡ paste out 0 (leBytes 8 (length pack)) 8
       → mid ≡ paste first 8 (ecb (encrypting (u .key)) (take n (pack ++ given))) n → (r ≡ reply 0 (8 + n)) × (end ≡ zeroFrom (8 + n) mid)
-      → left r end ≡ sealed info p pack given out
+      → left r end ≡ sealed info p pack given extra out
   unfolding sealedSize sealingOf streamOf filledWith
-  seal-written pack given out first mid end n r k g z pf pm d =
-      let o : Sealable (length pack) (length out) = sealable (length pack) (length out) .0 k in
-      let q : Pair = filledWith pack given in
+  seal-written pack given extra out first mid end n r k g z pf pm d =
+      let o : Sealable extra (length pack) (length out) = sealable extra (length pack) (length out) .0 k in
+      let q : Pair = filledWith pack given extra in
       let y : List ℕ = sealing info p (q .pack ++ q .fill) in
-      let long : length y ≡ n = length-ciphertext info p q (length-filling pack given g) ∙ sym z in
+      let long : length y ≡ n = length-ciphertext info p q extra (length-filling pack given extra g) ∙ sym z in
       let size : length (leBytes 8 (length pack)) ≡ 8 = length-leBytes 8 (length pack) in
       let room : 8 + n ≤ length out = omega (arith, o .roomy) in
       let kept : length first ≡ length out = ap length pf ∙ length-paste out 0 (leBytes 8 (length pack)) 8 (omega arith) (omega arith) in
       let head : take 8 first ≡ leBytes 8 (length pack) = ap (take 8) pf ∙ part-paste out (leBytes 8 (length pack)) 0 8 size (omega arith) in
-      let it : ecb (encrypting (u .key)) (take n (pack ++ given)) ≡ y = ap (ecb (encrypting (u .key))) (ap (λ (m : ℕ). take m (pack ++ given)) z ∙ rounded-plain pack given)
+      let it : ecb (encrypting (u .key)) (take n (pack ++ given)) ≡ y = ap (ecb (encrypting (u .key))) (ap (λ (m : ℕ). take m (pack ++ given)) z ∙ rounded-plain pack given extra)
       ∙ ap (λ (f : List ℕ → List ℕ). f (q .pack ++ q .fill)) (encrypts info p v u e) in
       let w : end ≡ leBytes 8 (length pack) ++ y ++ replicate (length out - (8 + n)) 0 =
       laid first y mid end 8 n (8 + n) refl (omega arith) (omega arith) (pm ∙ ap (λ (l : List ℕ). paste first 8 l n) it) (d .1)
       ∙ rw (head, take-all n y (omega arith), kept) in
-      rw (d .0, w, z) (sym (seal-done info p pack given out v k))
+      rw (d .0, w, z) (sym (seal-done info p pack given extra out v k))

@@ -10,7 +10,6 @@
 ghost use mathlib.Core.Path.{_≡_};
 ghost use mathlib.Core.Bool.{not};
 ghost use Prim.Native.Nat.{_-_, _≤_};
-ghost use lib.Dec.{eqb};
 ghost use lib.ListN.{length};
 ghost use Rattle.octets.specs.Octets.{leAt, zeroFrom};
 ghost use Rattle.answers.specs.Rules.{firstOf};
@@ -26,11 +25,27 @@ pub struct Reply {
     pub size: usize,
 }
 
-// A size brought to a multiple of 16. Within the limit nothing wraps.
-fn rounded(size: usize) -> usize
-    requires { ⌜ size ≤ Sheet.limit ⌝ }
-    ensures { λ r. ⌜ r ≡ Sheet.rounded size ⌝ }
+// Whether a package of that size may have an extra block: it is above 0 and a multiple of 4,096 (003, "Edge case").
+fn takes_extra(size: usize) -> bool
+    ensures { λ r. ⌜ r ≡ Sheet.takesExtra size ⌝ }
 {
+    if size == 0 {
+        return false;
+    }
+    size % 4096 == 0
+}
+
+// A size brought to a multiple of 16, or a whole block past it where that is chosen and the size takes one. Within the limit nothing
+// wraps.
+fn rounded(extra: bool, size: usize) -> usize
+    requires { ⌜ size ≤ Sheet.limit ⌝ }
+    ensures { λ r. ⌜ r ≡ Sheet.rounded extra size ⌝ }
+{
+    if extra {
+        if takes_extra(size) {
+            return size + 16;
+        }
+    }
     size + (16 - size % 16) % 16
 }
 
@@ -69,14 +84,19 @@ fn ciphertext(stream: &[u8]) -> usize
     stream.len() - 8
 }
 
-// Whether n bytes are other than `size` rounded up to a multiple of 16. Nothing is rounded, so that no size wraps.
+// Whether n bytes are neither `size` rounded up to a multiple of 16 nor, where it takes one, an extra block more. Nothing is rounded, so
+// that no size wraps.
 fn bad_ciphertext(n: usize, size: usize) -> bool
-    ensures { λ r. ⌜ r ≡ not (eqb n (Sheet.rounded size)) ⌝ }
+    ensures { λ r. ⌜ r ≡ not (Sheet.lengthAllowed size n) ⌝ }
 {
     if n < size {
         return true;
     }
-    if 16 <= n - size {
+    let more = n - size;
+    if more == 16 {
+        return !takes_extra(size);
+    }
+    if 16 < more {
         return true;
     }
     n % 16 != 0
@@ -94,14 +114,19 @@ fn stream_answer(stream: &[u8], room: usize) -> u16
     answers::first(stream.len() < 8, answers::STREAM_SHORT, rest)
 }
 
-// The first of the rules 14 and 16 that a package of that size breaks, given the room of the output; 0 where it breaks none.
-fn pack_answer(size: usize, room: usize) -> u16
-    ensures { λ r. ⌜ r ≡ firstOf (Sheet.packRules size room) ⌝ }
+// The first of the rules 14 and 16 that a package of that size breaks, given the choice of an extra block and the room of the output; 0
+// where it breaks none.
+fn pack_answer(extra: bool, size: usize, room: usize) -> u16
+    ensures { λ r. ⌜ r ≡ firstOf (Sheet.packRules extra size room) ⌝ }
 {
     if LIMIT < size {
         return answers::STREAM_SIZE;
     }
-    answers::first(room < 8 + rounded(size), answers::ROOM, answers::DONE)
+    answers::first(
+        room < 8 + rounded(extra, size),
+        answers::ROOM,
+        answers::DONE,
+    )
 }
 
 // Opens a package stream into out: as many bytes as StreamSize says, whatever its filling holds.
@@ -123,15 +148,17 @@ pub fn open(info: &[u8], password: &[u16], stream: &[u8], out: &mut [u8]) -> Rep
     done(size, out)
 }
 
-// Seals a package into out under an existing descriptor, its last block filled with the first of the filling bytes.
+// Seals a package into out under an existing descriptor, its last block filled with the first of the filling bytes. Where the size takes
+// an extra block and `extra` asks for it, that block is all sixteen of them; for other sizes the choice counts for nothing.
 pub fn seal(
     info: &[u8],
     password: &[u16],
     contents: &[u8],
     filling: [u8; 16],
+    extra: bool,
     out: &mut [u8],
 ) -> Reply
-    ensures { λ r. ⌜ left r (now (out .exit)) ≡ sealed (now (info .entry)) (now (password .entry)) (now (contents .entry)) filling (now (out .entry)) ⌝ }
+    ensures { λ r. ⌜ left r (now (out .exit)) ≡ sealed (now (info .entry)) (now (password .entry)) (now (contents .entry)) filling extra (now (out .entry)) ⌝ }
 {
     let u = password::unlock(info, password);
     let a = u.answer;
@@ -139,11 +166,11 @@ pub fn seal(
         return refused(a);
     }
     let n = contents.len();
-    let b = pack_answer(n, out.len());
+    let b = pack_answer(extra, n, out.len());
     if b != answers::DONE {
         return refused(b);
     }
-    let whole = rounded(n);
+    let whole = rounded(extra, n);
     let key = u.key;
     octets::put_le64(out, 0, n as u64);
     blocks::encrypt(key, contents, filling, whole, out, 8);

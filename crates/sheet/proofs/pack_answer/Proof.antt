@@ -3,7 +3,8 @@ use native.Mathlib.Omega.{arith}
 use borrow.Author.Needs.{needs}
 use borrow.Author.Tests.{lt-ltb, le-ltb}
 use Rattle.answers.specs.Rules.{firstOf}
-use Rattle.sheet.specs.Sheet.{limit, least, rounded, sealedSize, large, lacks, packRules}
+use Rattle.sheet.specs.Sheet.{limit, sealedSize, large, lacks, packRules}
+use Rattle.sheet.proofs.Fillings.{rounded-most}
 use Rattle.sheet.proofs.pack_answer.Statement.{statement}
 use Rattle.sheet.proofs.pack_answer.Tie as tie
 
@@ -16,8 +17,8 @@ unfolding limit
 rounded-requires c κs = c .if1 .left
 
 add-first : tie.Need-add-first
-unfolding rounded least
-add-first c = omega arith
+unfolding limit
+add-first c = omega (arith, rounded-most _ _ _ (c .rounded .ensures))
 
 returns-2 : tie.Need-returns-2
 unfolding packRules large limit lacks sealedSize firstOf

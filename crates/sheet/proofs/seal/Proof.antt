@@ -7,8 +7,9 @@ use Rattle.answers.specs.Rules.{firstOf}
 use Rattle.password.specs.Verdict.{judged}
 use Rattle.password.specs.declared.Unlocked.{Unlocked}
 use Rattle.password.proofs.Laws.{unlocked-answer}
-use Rattle.sheet.specs.Sheet.{limit, least, rounded, sealedSize, packRules}
-use Rattle.sheet.proofs.Lengths.{Sealable, sealable, rounded-whole}
+use Rattle.sheet.specs.Sheet.{limit, rounded, sealedSize, packRules}
+use Rattle.sheet.proofs.Fillings.{rounded-most, rounded-whole}
+use Rattle.sheet.proofs.Lengths.{Sealable, sealable}
 use Rattle.sheet.proofs.Laws.{seal-by-verdict, seal-by-pack}
 use Rattle.sheet.proofs.Keyed.{rounds-known}
 use Rattle.sheet.proofs.Written.{seal-written}
@@ -26,19 +27,19 @@ accepted : (c : tie.Else1) → let a = c .before .before .before .before .before
 accepted c = sym (says (c .before)) ∙ c .if1 .left
 
 -- the package breaks no rule
-kept : (c : tie.Else2) → let a = c .before .before .before .before .before .before .before .before .args in firstOf (packRules (length (a .contents .now)) (length (a .out .now))) ≡ 0
+kept : (c : tie.Else2) → let a = c .before .before .before .before .before .before .before .before .args in firstOf (packRules (a .extra) (length (a .contents .now)) (length (a .out .now))) ≡ 0
 kept c = sym (c .before .pack-answer .ensures) ∙ c .if2 .left
 
-fit : (c : tie.Else2) → let a = c .before .before .before .before .before .before .before .before .args in Sealable (length (a .contents .now)) (length (a .out .now))
-fit c = sealable _ _ .0 (kept c)
+fit : (c : tie.Else2) → let a = c .before .before .before .before .before .before .before .before .args in Sealable (a .extra) (length (a .contents .now)) (length (a .out .now))
+fit c = sealable _ _ _ .0 (kept c)
 
 returns : tie.Need-returns
-returns c = rw (c .refused .ensures, says (c .before .before)) (sym (seal-by-verdict _ _ _ _ _ (λ z. c .before .if1 .taken (says (c .before .before) ∙ z))))
+returns c = rw (c .refused .ensures, says (c .before .before)) (sym (seal-by-verdict _ _ _ _ _ _ (λ z. c .before .if1 .taken (says (c .before .before) ∙ z))))
 
 returns-2 : tie.Need-returns-2
 returns-2 c =
     rw (c .refused2 .ensures, c .before .before .pack-answer .ensures)
-    (sym (seal-by-pack _ _ _ _ _ (accepted (c .before .before .before)) (λ z. c .before .if2 .taken (c .before .before .pack-answer .ensures ∙ z))))
+    (sym (seal-by-pack _ _ _ _ _ _ (accepted (c .before .before .before)) (λ z. c .before .if2 .taken (c .before .before .pack-answer .ensures ∙ z))))
 
 rounded-requires : tie.Need-rounded-requires
 rounded-requires c κs = fit c .limited
@@ -48,24 +49,26 @@ unfolding sealedSize rounded
 put-le64-requires c κs = omega (arith, fit (c .before .before .before) .roomy)
 
 encrypt-requires : tie.Need-encrypt-requires
-unfolding sealedSize rounded least
+unfolding sealedSize rounded
 encrypt-requires c κs =
     let e = c .before .before .before .before .before .before .before in
     let r = rounds-known _ _ (accepted (e .before .before)) _ (e .before .before .before .unlock .ensures) in
     let n = c .before .before .before .before .before .before .rounded .ensures in
     let k = c .before .before .before .put-le64 .kept .0 in
-    (r, (rw n (rounded-whole _), omega arith, omega (arith, fit e .roomy)))
+    (r, (rw n (rounded-whole _ _), omega (arith, rounded-most _ _ _ n), omega (arith, fit e .roomy)))
 
 add-done : tie.Need-add-done
-unfolding limit rounded least
-add-done c = omega arith
+unfolding limit
+add-done c =
+    let e = c .before .before .before .before .before .before .before .before .before .before in
+    omega (arith, fit e .limited, rounded-most _ _ _ (c .before .before .before .before .before .before .before .before .before .rounded .ensures))
 
 returns-3 : tie.Need-returns-3
 returns-3 c =
     let d = c .before .before .before .before .before .before in
     let e = d .before .before .before .before .before .before .before .before in
     let s = e .before .before .before .before .before .before .before .before in
-    seal-written _ _ (accepted (e .before .before)) _ (e .before .before .before .unlock .ensures) _ (s .args .filling) _ _ _ _ _ _ (kept e) (sixteen s)
+    seal-written _ _ (accepted (e .before .before)) _ (e .before .before .before .unlock .ensures) _ (s .args .filling) (s .args .extra) _ _ _ _ _ _ (kept e) (sixteen s)
     (d .before .before .before .before .before .before .before .rounded .ensures) (d .before .before .before .before .put-le64 .ensures) (d .encrypt .ensures) (c .before .before .done .ensures)
 
 pub seal-spec : {M : Type 1} → statement M

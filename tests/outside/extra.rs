@@ -1,0 +1,84 @@
+//! The extra block of request 2026-02: packages sealed with each choice and streams of lengths around it, with the answers that no. 15
+//! and no. 16 give, and the two streams of one package.
+use crate::inputs::{Case, Cases, Lock, Random, lock, rooms};
+
+/// Sizes of packages, each with the length of its ciphertext and with the length that it has with an extra block.
+const LENGTHS: [(usize, usize, usize); 12] = [
+    (0, 0, 0),
+    (1, 16, 16),
+    (15, 16, 16),
+    (16, 16, 16),
+    (17, 32, 32),
+    (4_080, 4_080, 4_080),
+    (4_095, 4_096, 4_096),
+    (4_096, 4_096, 4_112),
+    (4_097, 4_112, 4_112),
+    (8_192, 8_192, 8_208),
+    (12_288, 12_288, 12_304),
+    (65_536, 65_536, 65_552),
+];
+
+/// Any number but 0 is the choice, also one that a narrower number would take for 0.
+const CHOICES: [u64; 5] = [0, 1, 2, 1 << 32, 1 << 63];
+
+impl Cases {
+    pub fn extra_blocks(&mut self) {
+        for size in 0..self.locks.len() {
+            for (n, least, most) in LENGTHS {
+                for extra in CHOICES {
+                    self.chosen(size, n, extra, if extra == 0 { least } else { most });
+                }
+                for more in [-16, -1, 0, 1, 15, 16, 17, 32] {
+                    let Some(length) = least.checked_add_signed(more) else { continue };
+                    self.lengthened(size, n, length, length == least || length == most);
+                }
+            }
+        }
+    }
+
+    /// Sealed into so many bytes and the 8 before them.
+    fn chosen(&mut self, size: usize, n: usize, extra: u64, length: usize) {
+        let (package, filling) = (self.r.bytes(n), self.r.sixteen());
+        for (room, answer) in rooms(8 + length) {
+            let call = self.locks[size].seal(&package, filling, extra, room);
+            self.list.push(Case { group: "extra block, sealed with each choice", call, answer: Some(answer) });
+        }
+    }
+
+    /// Any bytes are a ciphertext, if they are as many as there may be.
+    fn lengthened(&mut self, size: usize, n: usize, length: usize, allowed: bool) {
+        let stream = [&(n as u64).to_le_bytes()[..], &self.r.bytes(length)].concat();
+        for (room, answer) in rooms(n) {
+            let call = self.locks[size].open(&stream, room);
+            self.list.push(Case { group: "extra block, lengths of streams", call, answer: Some(if allowed { answer } else { 15 }) });
+        }
+    }
+}
+
+/// The package sealed with each choice into streams of these lengths: the same up to the extra block, and both open to it.
+fn both(l: &Lock, package: &[u8], filling: [u8; 16], least: usize, most: usize) -> Result<(), String> {
+    let without = l.seal(package, filling, 0, 8 + least).filled()?;
+    let with = l.seal(package, filling, 1, 8 + most).filled()?;
+    if with[..8 + least] != without {
+        return Err(format!("another stream with the extra block, of {} bytes", package.len()));
+    }
+    for stream in [without, with] {
+        if l.open(&stream, package.len()).filled()? != package {
+            return Err(format!("another package than was sealed, of {} bytes", package.len()));
+        }
+    }
+    Ok(())
+}
+
+/// A package has two streams where it may have an extra block, and one where it may not.
+pub fn both_streams(seed: u64) -> Result<u64, String> {
+    let (mut r, mut calls) = (Random(seed), 0);
+    for size in 0..3 {
+        let l = lock(&mut r, size, "one sheet, two streams".encode_utf16().collect());
+        for (n, least, most) in LENGTHS {
+            both(&l, &r.bytes(n), r.sixteen(), least, most)?;
+            calls += 4;
+        }
+    }
+    Ok(calls)
+}
