@@ -11,7 +11,7 @@ use lib.Dec.{T, eqb, ltb, eqb→eq, ltb→lt}
 use lib.ListN.{length, getD, List·getD-eq-default}
 use lib.Pow.{areBytes}
 use borrow.Author.Tests.{ltb-true, ltb-false, ne-eqb}
-use Rattle.answers.proofs.Laws.{either}
+use Rattle.answers.proofs.Laws.{either, both}
 use Rattle.octets.specs.Octets.{Bytes}
 use Rattle.octets.proofs.Below.{nil-bytes, cons-below}
 use Rattle.aes.specs.Field.{xor, double, bit, mulBy, mul, powers, inverse, power}
@@ -21,10 +21,6 @@ use Rattle.aes.specs.Tables.{rotate, affine, substituted, look, sbox, in
 abbrev every : (ℕ → ℕ → Bool) → ℕ → List ℕ → Bool
 every f i [] = true
 every f i (x ∷ t) = f i x && every f (suc i) t
-
-both : (a b : Bool) → T (a && b) → T a × T b
-both true b h = (tt, h)
-both false b h = absurd h
 
 from : (f : ℕ → ℕ → Bool) (t : List ℕ) (i : ℕ) → T (every f i t) → (k : ℕ) → k < length t → T (f (i + k) (getD t k 0))
 from f [] i h k l = absurd (not-suc-le-zero l)

@@ -6,6 +6,7 @@ use mathlib.Core.Bool.{Bool, true, false, not, _&&_}
 use mathlib.Core.List.{List, [], _∷_}
 use Prim.Native.Nat.{ℕ, zero, suc}
 use lib.Dec.{T}
+use Rattle.answers.proofs.Laws.{both}
 
 -- a sum of doubled variables, as it is written
 pub data Term : Type 0 where
@@ -47,14 +48,6 @@ vanishes (b ∷ p) = not b && vanishes p
 abbrev pub vanish : List (List Bool) → Bool
 vanish [] = true
 vanish (p ∷ ps) = vanishes p && vanish ps
-
-first : (a b : Bool) → T (a && b) → T a
-first true b t = tt
-first false b t = t
-
-second : (a b : Bool) → T (a && b) → T b
-second true b t = t
-second false b t = absurd t
 
 -- ---- what they stand for
 
@@ -136,8 +129,8 @@ module _ {A : Type 0} (o : A) (_⊕_ : A → A → A) (dbl : A → A) where
     total-vanish : (p : List (List Bool)) (ρ : ℕ → A) → T (vanish p) → total p ρ ≡ o
     total-vanish [] ρ t = refl
     total-vanish (p ∷ ps) ρ t =
-        ap₂ _⊕_ (at-vanishes p (ρ 0) (first (vanishes p) (vanish ps) t))
-        (total-vanish ps (λ i. ρ (suc i)) (second (vanishes p) (vanish ps) t)) ∙ zero-l o
+        ap₂ _⊕_ (at-vanishes p (ρ 0) (both (vanishes p) (vanish ps) t .0))
+        (total-vanish ps (λ i. ρ (suc i)) (both (vanishes p) (vanish ps) t .1)) ∙ zero-l o
 
     -- two terms are equal where their sum vanishes
     pub solve : (a b : Term) (ρ : ℕ → A) → T (vanish (polys (sum a b))) → value ρ a ≡ value ρ b

@@ -14,9 +14,10 @@ pub either : (b : Bool) → (b ≡ true) ⊎ (b ≡ false)
 either true = inl refl
 either false = inr refl
 
-and-split : (a b : Bool) → T (a && b) → T a × T b
-and-split true b h = (tt, h)
-and-split false b h = absurd h
+-- where two tests pass together each does
+pub both : (a b : Bool) → T (a && b) → T a × T b
+both true b h = (tt, h)
+both false b h = absurd h
 
 module _ (r : Rule) (rs : List Rule) where
   pub broke : r .broken ≡ true → firstOf (r ∷ rs) ≡ r .number
@@ -28,7 +29,7 @@ module _ (r : Rule) (rs : List Rule) where
   held e = rw e
 
   above : T (numbered (r ∷ rs)) → (0 < r .number) × T (numbered rs)
-  above t = let s = and-split (ltb 0 (r .number)) (numbered rs) t in (ltb→lt 0 (r .number) (s .0), s .1)
+  above t = let s = both (ltb 0 (r .number)) (numbered rs) t in (ltb→lt 0 (r .number) (s .0), s .1)
 
 -- where every rule holds, those after them decide
 pub all-hold : (rs ts : List Rule) → AllHold rs → firstOf (rs ++ ts) ≡ firstOf ts

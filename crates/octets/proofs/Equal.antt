@@ -1,15 +1,11 @@
 -- The test of equality is equality, element by element. Assumes nothing.
 use mathlib.Core.Path.{_≡_, refl, sym, ap₂}
-use mathlib.Core.Bool.{Bool, true, false, _&&_, true≢false}
+use mathlib.Core.Bool.{Bool, true, false, true≢false, and-eq-true-iff}
 use mathlib.Core.List.{List, [], _∷_}
 use Prim.Native.Nat.{ℕ}
 use borrow.Author.Tests.{eq-eqb, eqb-true}
 use lib.Dec.{eqb}
 use Rattle.octets.specs.Octets.{same}
-
-both : (a b : Bool) → (a && b) ≡ true → (a ≡ true) × (b ≡ true)
-both true b h = (refl, h)
-both false b h = absurd (true≢false (sym h))
 
 pub same-self : (x : List ℕ) → same x x ≡ true
 unfolding same
@@ -22,7 +18,7 @@ same-true [] [] h = refl
 same-true [] (w ∷ y) h = absurd (true≢false (sym h))
 same-true (v ∷ x) [] h = absurd (true≢false (sym h))
 same-true (v ∷ x) (w ∷ y) h =
-    let k : (eqb v w ≡ true) × (same x y ≡ true) = both (eqb v w) (same x y) h in
+    let k = and-eq-true-iff (eqb v w) (same x y) .0 h in
     ap₂ _∷_ (eqb-true v w (k .0)) (same-true x y (k .1))
 
 -- lists that differ

@@ -10,7 +10,7 @@ use borrow.Author.Tests.{lt-ltb, le-ltb}
 use lib.Dec.{T, ltb, eqb, ltb→lt, lit≤, lit<}
 use lib.ListN.{length, take, drop, take-append-drop}
 use Rattle.answers.specs.Rules.{Rule, firstOf, AllHold}
-use Rattle.answers.proofs.Laws.{either, broke, held, all-hold}
+use Rattle.answers.proofs.Laws.{either, both, broke, held, all-hold}
 use Rattle.descriptor.specs.Info.{infoRules, headerSize, sizeExtra, algId, keySize, badHeaderSize, badName, suiteOf, described, parsed}
 use Rattle.descriptor.proofs.Laws.{parsed-answer, parsed-fields}
 use Rattle.password.specs.Verdict.{judged, keyOf}
@@ -69,10 +69,6 @@ after k info h =
 abbrev above : ℕ → List Rule → Bool
 above m [] = true
 above m (r ∷ rs) = ltb m (r .number) && above m rs
-
-both : (a b : Bool) → T (a && b) → T a × T b
-both true b h = (tt, h)
-both false b h = absurd h
 
 -- rules numbered above m give 0 or a number above m
 first-above : (m : ℕ) (rs : List Rule) → T (above m rs) → 0 < firstOf rs → m < firstOf rs

@@ -21,9 +21,9 @@ use Rattle.sheet.proofs.Fillings.{filling-most}
 use Rattle.sheet.proofs.Laws.{filled-lawful, length-filling, filling-chosen}
 use Rattle.writer.specs.Written.{infoOf}
 use Rattle.writer.proofs.Back.{Given, info-bytes, info-bits, info-accepted}
-use Rattle.promises.specs.Three.{Begins}
+use Rattle.promises.specs.ExtraBlock.{Takes}
 use Rattle.promises.specs.Cases.{table}
-use Rattle.promises.specs.Possible.{Locks, Fills, Begun, Extra, Long, Told, Instances, Possible}
+use Rattle.promises.specs.Possible.{Locks, Fills, Begun, Long, Told, Instances, Possible}
 use Rattle.answers.proofs.Rows.{_and_}
 
 -- ---- accepted passwords
@@ -66,25 +66,19 @@ told size h =
       told = ap le (take-all 8 (leBytes 8 size) (rw length-leBytes (lit≤ tt))) ∙ le-leBytes 8 size h;
     }
 
--- sixteen bytes begin with the filling that they give
-pub given-begins : (pack given : List ℕ) (extra : Bool) → length given ≡ 16 → Begins (filledWith pack given extra) given extra
-unfolding filledWith
-given-begins pack given extra h =
-    let n = length-filling pack given extra h in
-    record { sixteen = h; chosen = n; begins = rw n }
-
 fills : (extra : Bool) (size : ℕ) → size ≤ 268435456 → Fills extra size
 unfolding limit filledWith
 fills extra size h = filled (long size) (long 16)
   where
     filled : Long size → Long 16 → Fills extra size
     filled pack given =
+        let n = length-filling (pack .it) (given .it) extra (given .long) in
         record {
           it = filledWith (pack .it) (given .it) extra;
           lawful = filled-lawful (pack .it) (given .it) extra (given .long) (pack .bytes) (given .bytes) (omega (arith, pack .long));
           sized = pack .long;
           given = given .it;
-          begins = given-begins (pack .it) (given .it) extra (given .long);
+          begins = record { sixteen = given .long; chosen = n; begins = rw n };
         }
 
 -- a filling, with zeros to sixteen bytes
@@ -103,24 +97,18 @@ begun p w =
       };
     }
 
-extra : (size : ℕ) → 0 < size → size % 4096 ≡ 0 → size ≤ 268435456 → Extra size
-extra size p m l = taking (long size) (long 16)
+extra : (size : ℕ) → 0 < size → size % 4096 ≡ 0 → size ≤ 268435456 → (pack : Long size) × (given : Long 16) × Takes (pack .it) (given .it)
+extra size p m l = (long size, long 16, taking (long size) (long 16))
   where
-    taking : Long size → Long 16 → Extra size
+    taking : (pack : Long size) (given : Long 16) → Takes (pack .it) (given .it)
     taking pack given =
-        let n : length (pack .it) ≡ size = pack .long in
         record {
-          pack = pack .it;
-          sized = n;
-          given = given .it;
-          takes = record {
-            pack-bytes = pack .bytes;
-            given-bytes = given .bytes;
-            sixteen = given .long;
-            some = rw n p;
-            multiple = rw n m;
-            limited = rw n l;
-          };
+          pack-bytes = pack .bytes;
+          given-bytes = given .bytes;
+          sixteen = given .long;
+          some = rw (pack .long) p;
+          multiple = rw (pack .long) m;
+          limited = rw (pack .long) l;
         }
 
 -- ---- rows

@@ -35,13 +35,6 @@ pub record Begun (p : Pair) : Type 0 where
   pub extra : Bool
   pub begins : Begins p given extra
 
--- a package of so many bytes that takes an extra block, and sixteen bytes to fill it
-pub record Extra (size : ℕ) : Type 0 where
-  pub pack : List ℕ
-  pub sized : length pack ≡ size
-  pub given : List ℕ
-  pub takes : Takes pack given
-
 -- a list of so many bytes
 pub record Long (n : ℕ) : Type 0 where
   pub it : List ℕ
@@ -77,6 +70,7 @@ pub record Possible (parses : Parser) (judges : Judge) : Type 0 where
   -- every lawful pair can be asked for
   pub begun : (p : Pair) → Lawful lengths p → Begun p
   -- every multiple of 4,096 above 0 and within the limit is the size of a package that takes an extra block
-  pub extra : (size : ℕ) → 0 < size → size % 4096 ≡ 0 → size ≤ 268435456 → Extra size
+  pub extra : (size : ℕ) → 0 < size → size % 4096 ≡ 0 → size ≤ 268435456
+      → (pack : Long size) × (given : Long 16) × Takes (pack .it) (given .it)
   -- every row of the table P1 to P12 has an instance
   pub rows : Instances parses table

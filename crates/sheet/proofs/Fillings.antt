@@ -1,11 +1,11 @@
 -- How long a filling is with and without an extra block, and so which lengths a ciphertext may have. Assumes nothing.
 use mathlib.Core.Path.{_≡_, refl}
-use mathlib.Core.Bool.{Bool, true, false, _&&_, false≢true, or-true, or-false, or-self}
+use mathlib.Core.Bool.{Bool, true, false, and-eq-true-iff, or-true, or-false, or-self}
 use mathlib.Core.Logic.{_↔_, _⊎_, inl, inr}
 use Prim.Native.Nat.{ℕ, _+_, _%_, _≤_, _<_}
 use native.Mathlib.Omega.{arith}
 use borrow.Author.Tests.{lt-ltb, ltb-true, eq-eqb, ne-eqb, eqb-true}
-use lib.Dec.{eqb}
+use lib.Dec.{ltb, eqb}
 use Rattle.answers.proofs.Laws.{either}
 use Rattle.blocks.specs.Blocks.{whole}
 use Rattle.sheet.specs.Sheet.{least, takesExtra, fillingFor, rounded, lengthAllowed, allowed}
@@ -37,15 +37,11 @@ pub taken : (size : ℕ) → takesExtra size ≡ true → fillingFor true size �
 unfolding fillingFor
 taken size e = rw e
 
-both-true : (a b : Bool) → (a && b) ≡ true → (a ≡ true) × (b ≡ true)
-both-true true b h = (refl, h)
-both-true false b h = absurd (false≢true h)
-
 pub takes : (size : ℕ) → (takesExtra size ≡ true) ↔ ((0 < size) × (size % 4096 ≡ 0))
 unfolding takesExtra
 takes size = (
   λ e.
-      let k = both-true _ _ e in
+      let k = and-eq-true-iff (ltb 0 size) (eqb (size % 4096) 0) .0 e in
       (ltb-true _ _ (k .0), eqb-true _ _ (k .1)),
   λ h. rw (lt-ltb 0 size (h .0), eq-eqb (size % 4096) 0 (h .1)),
 )
@@ -89,6 +85,11 @@ allowed-rounded size n e =
       | inl f ↦ (false, eqb-true _ _ f)
       | inr f ↦ (true, eqb-true _ _ (rw f at e))
     ]
+
+-- a filling as long as a choice makes it is allowed
+pub filling-allowed : (extra : Bool) (size n : ℕ) → n ≡ fillingFor extra size → allowed size n ≡ true
+unfolding allowed rounded
+filling-allowed extra size n e = rw e (rounded-allowed extra size)
 
 -- sixteen bytes more than the package are allowed exactly where it takes an extra block
 pub extra-allowed : (size n : ℕ) → n ≡ size + 16 → lengthAllowed size n ≡ takesExtra size

@@ -18,7 +18,7 @@ use Rattle.descriptor.specs.Info.{infoRules}
 use Rattle.blocks.proofs.Aes.{length-encrypted, length-decrypted}
 use Rattle.sheet.specs.Frame.{Pair, pair, streamSize, streamOf, pairOf, Lawful}
 use Rattle.sheet.specs.Sheet.{limit, fillingFor, rounded, allowed, lengths, sealedSize, streamRules, packRules, openRules, sealRules, sheetKey, sealing, opening, packageOf, filledWith, sealingOf, left, reply, ended, opened, sealed}
-use Rattle.sheet.proofs.Fillings.{filling-most, rounded-whole, rounded-allowed, allowed-rounded}
+use Rattle.sheet.proofs.Fillings.{filling-most, rounded-whole, filling-allowed, allowed-rounded}
 use Rattle.sheet.proofs.Lengths.{Openable, openable, Sealable, sealable, openable-blocks}
 
 -- ---- how a call ends
@@ -165,13 +165,13 @@ module _ (pack given : List ℕ) (extra : Bool) (h : length given ≡ 16) where
 
   -- what a call seals is a lawful pair
   pub filled-lawful : Bytes pack → Bytes given → length pack ≤ limit → Lawful lengths (filledWith pack given extra)
-  unfolding lengths allowed rounded filledWith
+  unfolding lengths filledWith
   filled-lawful b c l =
       record {
         pack-bytes = b;
         fill-bytes = take-below (fillingFor extra (length pack)) given c;
         limited = l;
-        filled = rw length-filling (rounded-allowed extra (length pack));
+        filled = filling-allowed extra (length pack) _ length-filling;
       }
 
 -- a lawful pair's filling is as long as one choice makes it
