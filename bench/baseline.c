@@ -72,14 +72,11 @@ void baseline_sha1(const u8 *m, size n, u8 *out)
     put(out + 16, s.e);
 }
 
-/* ---- AES in bytes and doublings, table and expanded key lent */
+/* ---- AES in bytes, tables and expanded key lent: MixColumns by doublings, InvMixColumns by a word of products for each byte */
 
 static u8 twice(u8 a) { return (u8)(a << 1) ^ (u8)((a >> 7) * 0x1b); }
 
-static u8 by_9(u8 a) { return twice(twice(twice(a))) ^ a; }
-static u8 by_11(u8 a) { return twice(twice(twice(a))) ^ twice(a) ^ a; }
-static u8 by_13(u8 a) { return twice(twice(twice(a))) ^ twice(twice(a)) ^ a; }
-static u8 by_14(u8 a) { return twice(twice(twice(a))) ^ twice(twice(a)) ^ twice(a); }
+static u32 up(u32 x, unsigned bytes) { return x << 8 * bytes | x >> (32 - 8 * bytes); }
 
 static void add_key(const u8 *w, size r, u8 *s)
 {
@@ -101,11 +98,11 @@ static void mix_columns(u8 *s)
     }
 }
 
-static void unmix_columns(u8 *s)
+static void unmix_columns(const u32 *shares, u8 *s)
 {
     for (size c = 0; c < 16; c += 4) {
-        u8 a[4] = {s[c], s[c + 1], s[c + 2], s[c + 3]};
-        for (size j = 0; j < 4; j++) s[c + j] = by_14(a[j]) ^ by_11(a[(j + 1) % 4]) ^ by_13(a[(j + 2) % 4]) ^ by_9(a[(j + 3) % 4]);
+        u32 sum = shares[s[c]] ^ up(shares[s[c + 1]], 1) ^ up(shares[s[c + 2]], 2) ^ up(shares[s[c + 3]], 3);
+        for (size j = 0; j < 4; j++) s[c + j] = (u8)(sum >> 8 * j);
     }
 }
 
@@ -126,14 +123,14 @@ void baseline_encrypt(const u8 *w, size rounds, const u8 *table, u8 *buf, size n
     }
 }
 
-void baseline_decrypt(const u8 *w, size rounds, const u8 *table, u8 *buf, size n)
+void baseline_decrypt(const u8 *w, size rounds, const u8 *table, const u32 *shares, u8 *buf, size n)
 {
     for (u8 *s = buf; s + 16 <= buf + n; s += 16) {
         add_key(w, rounds, s);
         for (size r = rounds - 1; r > 0; r--) {
             turn(table, right, s);
             add_key(w, r, s);
-            unmix_columns(s);
+            unmix_columns(shares, s);
         }
         turn(table, right, s);
         add_key(w, 0, s);

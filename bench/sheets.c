@@ -1,8 +1,10 @@
 /* Whole calls of the library, each of which derives its key, beside OpenSSL: a verdict, and opening and sealing by size. What other
-   programs then measure is left in a folder: package, and for each key size info-BITS and the blocks that package is sealed to.
-       sheets portable|instructions [FOLDER] */
+   programs then measure is left in a folder: package, and for each key size info-BITS and the blocks that package is sealed to. The
+   library of another commit, as LIBRARY.so, opens and seals beside them.
+       sheets portable|instructions [FOLDER [LIBRARY.so]] */
 #include "contest.h"
 #include "openssl.h"
+#include <dlfcn.h>
 #include <ropeshadow.h>
 #include <stdio.h>
 #include <stdlib.h>
@@ -44,11 +46,34 @@ static uint64_t seal_openssl(const unsigned char *package, size_t n, unsigned ch
     return openssl_seal(openssl.aes, info, package, n, filling, out, n + 24);
 }
 
-static void call(struct contest c, work *ours, work *by_openssl)
+static __typeof__(ropeshadow_open) *base_open;
+static __typeof__(ropeshadow_seal) *base_seal;
+
+static uint64_t open_base(const unsigned char *stream, size_t n, unsigned char *out)
 {
-    struct contestant each[2] = {{"ours", ours}, {openssl.name, by_openssl}};
+    return base_open(info, INFO_SIZE, password, UNITS, stream, n, out, n);
+}
+
+static uint64_t seal_base(const unsigned char *package, size_t n, unsigned char *out)
+{
+    return base_seal(info, INFO_SIZE, password, UNITS, package, n, 0, 0, 0, out, n + 24);
+}
+
+static void load(const char *library)
+{
+    void *base = dlopen(library, RTLD_NOW | RTLD_LOCAL);
+    if (base) base_open = dlsym(base, "ropeshadow_open"), base_seal = dlsym(base, "ropeshadow_seal");
+    if (base_open && base_seal) return;
+    fprintf(stderr, "%s\n", dlerror());
+    exit(2);
+}
+
+/* the last one where there is another library */
+static void call(struct contest c, work *ours, work *by_openssl, work *by_base)
+{
+    struct contestant each[3] = {{"ours", ours}, {openssl.name, by_openssl}, {"before", by_base}};
     c.each = each;
-    c.count = 2;
+    c.count = by_base && base_open ? 3 : 2;
     c.rounds = c.bytes < LARGEST ? 15 : 3;
     c.turns = 1;
     c.per = 1;
@@ -70,14 +95,14 @@ static void key_size(size_t bits, unsigned char *package, unsigned char *stream,
 {
     lay_info(info, bits);
     must(verdict_ours(package, 0, out) == 0, "the password");
-    call((struct contest){.call = "verdict", .bits = bits}, verdict_ours, verdict_openssl);
+    call((struct contest){.call = "verdict", .bits = bits}, verdict_ours, verdict_openssl, NULL);
     static const size_t sizes[] = {1 << 10, 64 << 10, 1 << 20, LARGEST};
     for (int i = 0; i < 4; i++) {
         size_t n = sizes[i];
         struct contest c = {.call = "seal", .bits = bits, .bytes = n, .in = package, .n = n, .out = stream, .room = n + 24};
-        call(c, seal_ours, seal_openssl);
+        call(c, seal_ours, seal_openssl, seal_base);
         c = (struct contest){.call = "open", .bits = bits, .bytes = n, .in = stream, .n = n + 8, .out = out, .room = n + 8};
-        call(c, open_ours, open_openssl);
+        call(c, open_ours, open_openssl, open_base);
         must(filled(out, n), "there and back");
     }
 }
@@ -86,6 +111,7 @@ int main(int argc, char **argv)
 {
     openssl = manner_of(argc, argv);
     begin("sheets", argv[1]);
+    if (argc > 3) load(argv[3]);
     unsigned char *package = reserve(LARGEST), *stream = reserve(ROOM), *out = reserve(ROOM);
     fill(package, LARGEST);
     if (argc > 2) save(argv[2], "package", 0, package, LARGEST);

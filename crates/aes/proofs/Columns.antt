@@ -1,6 +1,6 @@
 -- The two matrices undo each other, on any numbers: every entry of their product is a sum of doublings, which the solver decides.
--- The same solver turns the document's products into what the code computes. Assumes nothing.
-use mathlib.Core.Path.{_≡_, refl, ap, _∙_}
+-- The same solver turns MixColumns' products into what the code computes. Assumes nothing.
+use mathlib.Core.Path.{_≡_, refl, ap}
 use mathlib.Core.List.{List, [], _∷_}
 use Prim.Native.Nat.{ℕ, zero, suc, _/_, _%_, _<_}
 use lib.Dec.{T}
@@ -55,48 +55,20 @@ module _ (a b c d : ℕ) where
       decided (sum (sum (sum (twice (sum (var 0) (var 1))) (var 1)) (var 2)) (var 3))
       (row′ 2 3 1 1 (var 0) (var 1) (var 2) (var 3)) tt
 
-  -- a row of the matrix between the two
-  pub halfway-row : xor a (double (double (xor a c))) ≡ row 5 0 4 0 a b c d
-  unfolding row mul mulBy bit
-  halfway-row = decided (sum (var 0) (twice (twice (sum (var 0) (var 2))))) (row′ 5 0 4 0 (var 0) (var 1) (var 2) (var 3)) tt
-
-  halves : twofold (row 2 3 1 1) (row 5 0 4 0) a b c d ≡ row 14 11 13 9 a b c d
-  unfolding row mul mulBy bit
-  halves =
-      decided (twofold (row′ 2 3 1 1) (row′ 5 0 4 0) (var 0) (var 1) (var 2) (var 3)) (row′ 14 11 13 9 (var 0) (var 1) (var 2) (var 3)) tt
-
   row-byte : (p q r t : ℕ) → a < 256 → b < 256 → c < 256 → d < 256 → row p q r t a b c d < 256
   unfolding row
   row-byte p q r t ha hb hc hd = xor-byte (xor-byte (xor-byte (mul-byte p a ha) (mul-byte q b hb)) (mul-byte r c hc)) (mul-byte t d hd)
 
 -- ---- whole columns
 
--- two matrices, one after the other, are their product
-columns-twofold : (m n p : ℕ → ℕ → ℕ → ℕ → ℕ) → ((a b c d : ℕ) → twofold m n a b c d ≡ p a b c d) → (s : List ℕ)
-    → columns m (columns n s) ≡ columns p s
-unfolding columns
-columns-twofold m n p product [] = refl
-columns-twofold m n p product (a ∷ []) = refl
-columns-twofold m n p product (a ∷ b ∷ []) = refl
-columns-twofold m n p product (a ∷ b ∷ c ∷ []) = refl
-columns-twofold m n p product (a ∷ b ∷ c ∷ d ∷ s) =
-    λ i. product a b c d i ∷ product b c d a i ∷ product c d a b i ∷ product d a b c i ∷ columns-twofold m n p product s i
-
-columns-same : (s : List ℕ) → columns (λ a b c d. a) s ≡ s
-unfolding columns
-columns-same [] = refl
-columns-same (a ∷ []) = refl
-columns-same (a ∷ b ∷ []) = refl
-columns-same (a ∷ b ∷ c ∷ []) = refl
-columns-same (a ∷ b ∷ c ∷ d ∷ s) = ap (λ (t : List ℕ). a ∷ b ∷ c ∷ d ∷ t) (columns-same s)
-
 columns-undo : (m n : ℕ → ℕ → ℕ → ℕ → ℕ) → ((a b c d : ℕ) → twofold m n a b c d ≡ a) → (s : List ℕ) → columns m (columns n s) ≡ s
-columns-undo m n undo s = columns-twofold m n (λ a b c d. a) undo s ∙ columns-same s
-
--- InvMixColumns in two steps
-pub mix-halfway : (s : List ℕ) → mixColumns (columns (row 5 0 4 0) s) ≡ invMixColumns s
-unfolding mixColumns invMixColumns
-mix-halfway = columns-twofold (row 2 3 1 1) (row 5 0 4 0) (row 14 11 13 9) halves
+unfolding columns
+columns-undo m n undo [] = refl
+columns-undo m n undo (a ∷ []) = refl
+columns-undo m n undo (a ∷ b ∷ []) = refl
+columns-undo m n undo (a ∷ b ∷ c ∷ []) = refl
+columns-undo m n undo (a ∷ b ∷ c ∷ d ∷ s) =
+    λ i. undo a b c d i ∷ undo b c d a i ∷ undo c d a b i ∷ undo d a b c i ∷ columns-undo m n undo s i
 
 pub unmixColumns : (s : List ℕ) → invMixColumns (mixColumns s) ≡ s
 unfolding mixColumns invMixColumns
@@ -122,7 +94,7 @@ pub length-invMixColumns : (s : List ℕ) → length (invMixColumns s) ≡ lengt
 unfolding invMixColumns
 length-invMixColumns = length-columns (row 14 11 13 9)
 
-columns-bytes : (p q r t : ℕ) (s : List ℕ) → Bytes s → Bytes (columns (row p q r t) s)
+pub columns-bytes : (p q r t : ℕ) (s : List ℕ) → Bytes s → Bytes (columns (row p q r t) s)
 unfolding columns
 columns-bytes p q r t [] h = h
 columns-bytes p q r t (a ∷ []) h = h

@@ -18,7 +18,7 @@ use Rattle.aes.specs.Field.{xor, double, bit, mulBy, mul, powers, invers
 use Rattle.aes.specs.Tables.{rotate, affine, substituted, look, sbox, invSbox, roundConstants, roundConstant}
 
 -- the test passes at each entry and its place, counted from i
-abbrev every : (ℕ → ℕ → Bool) → ℕ → List ℕ → Bool
+abbrev pub every : (ℕ → ℕ → Bool) → ℕ → List ℕ → Bool
 every f i [] = true
 every f i (x ∷ t) = f i x && every f (suc i) t
 
@@ -29,7 +29,7 @@ from f (x ∷ t) i h (suc k) l =
     rw (add-suc, ← suc-add) (from f t (suc i) (both (f i x) (every f (suc i) t) h .1) k (le-of-suc-le-suc l))
 
 -- a test that passes over the whole table passes at any entry
-at : (f : ℕ → ℕ → Bool) (t : List ℕ) → T (every f 0 t) → (k : ℕ) → k < length t → T (f k (getD t k 0))
+pub at : (f : ℕ → ℕ → Bool) (t : List ℕ) → T (every f 0 t) → (k : ℕ) → k < length t → T (f k (getD t k 0))
 at f t h k l = rw zero-add at (from f t 0 h k l)
 
 -- ---- a number looked up

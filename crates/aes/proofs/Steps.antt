@@ -22,35 +22,49 @@ pub by-columns : (f : List ℕ → List ℕ) (s r a b c d : List ℕ) → length
     → r ≡ f s
 by-columns f s r a b c d h e ea eb ec ed whole = e ∙ rw (ea, eb, ec, ed) (whole ∙ ap f (opened 16 s h))
 
--- ---- sixteen bytes made one by one
+-- ---- a list made place by place
 
-getD-tabulate : (n : ℕ) (f : ℕ → ℕ) (i : ℕ) → i < n → getD (tabulate n f) i 0 ≡ f i
+length-tabulate : (n : ℕ) (f : ℕ → ℕ) → length (tabulate n f) ≡ n
+length-tabulate zero f = refl
+length-tabulate (suc n) f = ap suc (length-tabulate n (λ i. f (suc i)))
+
+pub getD-tabulate : (n : ℕ) (f : ℕ → ℕ) (i : ℕ) → i < n → getD (tabulate n f) i 0 ≡ f i
 getD-tabulate zero f i h = absurd (omega arith)
 getD-tabulate (suc n) f zero h = refl
 getD-tabulate (suc n) f (suc i) h = getD-tabulate n (λ j. f (suc j)) i (omega arith)
 
--- the first i places hold what f gives there
-pub record Filled (f : ℕ → ℕ) (i : ℕ) (t : List ℕ) : Type 0 where
-  pub few : i ≤ 16
-  pub size : length t ≡ 16
-  pub front : take i t ≡ take i (tabulate 16 f)
+pub tabulate-same : (n : ℕ) (f g : ℕ → ℕ) → ((i : ℕ) → i < n → f i ≡ g i) → tabulate n f ≡ tabulate n g
+tabulate-same zero f g h = refl
+tabulate-same (suc n) f g h =
+    λ i. h 0 (omega arith) i ∷ tabulate-same n (λ j. f (suc j)) (λ j. g (suc j)) (λ j l. h (suc j) (omega arith)) i
 
-pub filled-none : (f : ℕ → ℕ) (t : List ℕ) → length t ≡ 16 → Filled f 0 t
-filled-none f t h = record { few = omega arith; size = h; front = refl }
+-- of n places the first i hold what f gives there
+pub record Filled (n : ℕ) (f : ℕ → ℕ) (i : ℕ) (t : List ℕ) : Type 0 where
+  pub few : i ≤ n
+  pub size : length t ≡ n
+  pub front : take i t ≡ take i (tabulate n f)
 
--- a turn of a loop
-pub filled-more : (f : ℕ → ℕ) (i : ℕ) (t : List ℕ) (v : ℕ) → i < 16 → Filled f i t → v ≡ f i → Filled f (i + 1) (set t i v)
-filled-more f i t v h done e =
-    let old = done .size in
-    let new : v ≡ getD (tabulate 16 f) i 0 = e ∙ sym (getD-tabulate 16 f i h) in
-    record {
-      few = omega arith;
-      size = length-set t i v ∙ old;
-      front = rw (add-one, take-suc-set t i v (omega arith), take-suc (tabulate 16 f) i 0 h, done .front, new);
-    }
+module _ (n : ℕ) (f : ℕ → ℕ) where
+  pub filled-none : (t : List ℕ) → length t ≡ n → Filled n f 0 t
+  filled-none t h = record { few = omega arith; size = h; front = refl }
 
-pub filled-all : (f : ℕ → ℕ) (i : ℕ) (t : List ℕ) → 16 ≤ i → Filled f i t → t ≡ tabulate 16 f
-filled-all f i t h done = let old = done .size in sym (take-all i t (omega arith)) ∙ done .front ∙ take-all i (tabulate 16 f) h
+  -- a turn of a loop
+  pub filled-more : (i : ℕ) (t : List ℕ) (v : ℕ) → i < n → Filled n f i t → v ≡ f i → Filled n f (i + 1) (set t i v)
+  filled-more i t v h done e =
+      let old = done .size in
+      let new : v ≡ getD (tabulate n f) i 0 = e ∙ sym (getD-tabulate n f i h) in
+      let within : i < length (tabulate n f) = rw length-tabulate h in
+      record {
+        few = omega arith;
+        size = length-set t i v ∙ old;
+        front = rw (add-one, take-suc-set t i v (omega arith), take-suc (tabulate n f) i 0 within, done .front, new);
+      }
+
+  pub filled-all : (i : ℕ) (t : List ℕ) → n ≤ i → Filled n f i t → t ≡ tabulate n f
+  filled-all i t h done =
+      let old = done .size in
+      let whole : length (tabulate n f) ≤ i = rw length-tabulate h in
+      sym (take-all i t (omega arith)) ∙ done .front ∙ take-all i (tabulate n f) whole
 
 -- AddRoundKey byte by byte
 pub added : (s w : List ℕ) (n : ℕ) → length s ≡ 16 → 16 * n + 16 ≤ length w

@@ -1,5 +1,6 @@
 pub mod Field
 pub mod Tables
 pub mod Cipher
+pub mod Products
 pub mod Expansion
 pub mod Aes

@@ -11,12 +11,14 @@
 //         let opened = aes::decrypt(&key, sealed.block);
 //     }
 //
-// A stream expands its key once, copies a table into a local once, and lends both to `rounds::cipher` or `rounds::inv_cipher`.
+// A stream expands its key once, copies its table into a local once, to decrypt also lays the shares of `products` once, and lends
+// them to `rounds::cipher` or `rounds::inv_cipher`.
 ghost use mathlib.Core.Path.{_≡_};
 ghost use Rattle.aes.specs.Aes as Aes;
 
 mod expansion;
 mod field;
+pub mod products;
 pub mod rounds;
 pub mod tables;
 
@@ -97,7 +99,8 @@ pub fn decrypt_block(key: Expanded, block: [u8; 16]) -> Reply
         10 | 12 | 14 => {
             let w = key.bytes;
             let table = tables::INV_SBOX;
-            accepted(rounds::inv_cipher(&w, rounds, &table, block))
+            let shares = products::shares();
+            accepted(rounds::inv_cipher(&w, rounds, &table, &shares, block))
         }
         _ => refusal(),
     }

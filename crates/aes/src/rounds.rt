@@ -1,12 +1,14 @@
-// The steps of a round and the two ciphers (FIPS 197 5.1 and 5.3), under an expanded key and a table that are lent.
+// The steps of a round and the two ciphers (FIPS 197 5.1 and 5.3), under an expanded key and tables that are lent.
 ghost use mathlib.Core.Path.{_≡_};
 ghost use mathlib.Core.List.{[], _∷_, _++_, map};
 ghost use Prim.Native.Nat.{_<_, _≤_};
 ghost use lib.ListN.{length};
-ghost use Rattle.aes.specs.Field as Field;
 ghost use Rattle.aes.specs.Tables as Tables;
 ghost use Rattle.aes.specs.Cipher as Cipher;
+ghost use Rattle.aes.specs.Products as Products;
 use super::field::double;
+use super::products::moved;
+use super::products::share;
 use super::tables::look;
 
 // Four columns, one after the other.
@@ -125,34 +127,30 @@ fn mix_columns(s: [u8; 16]) -> [u8; 16]
     )
 }
 
-// A row of the matrix between InvMixColumns and MixColumns: 5 a + 4 c, with two doublings.
-fn halfway_row(a: u8, c: u8) -> u8
-    ensures { λ r. ⌜ r ≡ Field.xor a (Field.double (Field.double (Field.xor a c))) ⌝ }
-{
-    a ^ double(double(a ^ c))
-}
-
-// A column of InvMixColumns: MixColumns after the matrix between the two.
-fn inv_mix_column(a: u8, b: u8, c: u8, d: u8) -> [u8; 4]
+// A column of InvMixColumns: the sum of its four bytes' shares, each moved to the byte's row.
+fn inv_mix_column(shares: &[u32; 256], a: u8, b: u8, c: u8, d: u8) -> [u8; 4]
+    requires { ⌜ now shares ≡ Products.shares ⌝ }
     ensures { λ r. ⌜ r ≡ Cipher.invMixColumns (a ∷ b ∷ c ∷ d ∷ []) ⌝ }
 {
-    mix_column(
-        halfway_row(a, c),
-        halfway_row(b, d),
-        halfway_row(c, a),
-        halfway_row(d, b),
-    )
+    let sum = share(shares, a)
+        ^ moved(1, share(shares, b))
+        ^ moved(2, share(shares, c))
+        ^ moved(3, share(shares, d));
+    let mut column = [0u8; 4];
+    octets::put_le32(&mut column, 0, sum);
+    column
 }
 
 // InvMixColumns.
-fn inv_mix_columns(s: [u8; 16]) -> [u8; 16]
+fn inv_mix_columns(shares: &[u32; 256], s: [u8; 16]) -> [u8; 16]
+    requires { ⌜ now shares ≡ Products.shares ⌝ }
     ensures { λ r. ⌜ r ≡ Cipher.invMixColumns s ⌝ }
 {
     joined(
-        inv_mix_column(s[0], s[1], s[2], s[3]),
-        inv_mix_column(s[4], s[5], s[6], s[7]),
-        inv_mix_column(s[8], s[9], s[10], s[11]),
-        inv_mix_column(s[12], s[13], s[14], s[15]),
+        inv_mix_column(shares, s[0], s[1], s[2], s[3]),
+        inv_mix_column(shares, s[4], s[5], s[6], s[7]),
+        inv_mix_column(shares, s[8], s[9], s[10], s[11]),
+        inv_mix_column(shares, s[12], s[13], s[14], s[15]),
     )
 }
 
@@ -179,11 +177,20 @@ fn round(w: &[u8; 240], n: usize, table: &[u8; 256], s: [u8; 16]) -> [u8; 16]
 }
 
 // Round n of the inverse cipher, before the last.
-fn inv_round(w: &[u8; 240], n: usize, table: &[u8; 256], s: [u8; 16]) -> [u8; 16]
-    requires { ⌜ (n ≤ 14) × (length (now w) ≡ 240) × (now table ≡ Tables.invSbox) ⌝ }
+fn inv_round(
+    w: &[u8; 240],
+    n: usize,
+    table: &[u8; 256],
+    shares: &[u32; 256],
+    s: [u8; 16],
+) -> [u8; 16]
+    requires { ⌜ (n ≤ 14) × (length (now w) ≡ 240) × (now table ≡ Tables.invSbox) × (now shares ≡ Products.shares) ⌝ }
     ensures { λ r. ⌜ r ≡ Cipher.invRound (Cipher.keyOf (now (w .entry))) n s ⌝ }
 {
-    inv_mix_columns(add_round_key(w, n, sub_bytes(table, inv_shift_rows(s))))
+    inv_mix_columns(
+        shares,
+        add_round_key(w, n, sub_bytes(table, inv_shift_rows(s))),
+    )
 }
 
 // The cipher of `rounds` rounds under the expanded key w (5.1), with the substitution table lent.
@@ -201,15 +208,22 @@ pub fn cipher(w: &[u8; 240], rounds: usize, table: &[u8; 256], block: [u8; 16]) 
     add_round_key(w, rounds, shift_rows(sub_bytes(table, s)))
 }
 
-// The inverse cipher of `rounds` rounds under the expanded key w (5.3), with the inverse table lent.
-pub fn inv_cipher(w: &[u8; 240], rounds: usize, table: &[u8; 256], block: [u8; 16]) -> [u8; 16]
-    requires { ⌜ (0 < rounds) × (rounds ≤ 14) × (length (now w) ≡ 240) × (now table ≡ Tables.invSbox) ⌝ }
+// The inverse cipher of `rounds` rounds under the expanded key w (5.3), with the inverse table and the shares lent.
+pub fn inv_cipher(
+    w: &[u8; 240],
+    rounds: usize,
+    table: &[u8; 256],
+    shares: &[u32; 256],
+    block: [u8; 16],
+) -> [u8; 16]
+    requires { ⌜ (0 < rounds) × (rounds ≤ 14) × (length (now w) ≡ 240) ⌝ }
+    requires { ⌜ (now table ≡ Tables.invSbox) × (now shares ≡ Products.shares) ⌝ }
     ensures { λ r. ⌜ r ≡ Cipher.invCipher (Cipher.keyOf (now (w .entry))) rounds block ⌝ }
 {
     let mut s = add_round_key(w, rounds, block);
     let mut n = rounds - 1;
     while 0 < n {
-        let t = inv_round(w, n, table, s);
+        let t = inv_round(w, n, table, shares, s);
         s = t;
         n -= 1;
     }

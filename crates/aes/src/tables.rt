@@ -17,7 +17,7 @@ pub use inverse::INV_SBOX;
 const ROUND_CONSTANTS: [u8; 10] = [0x01, 0x02, 0x04, 0x08, 0x10, 0x20, 0x40, 0x80, 0x1b, 0x36];
 
 // A byte as a place in a table.
-fn wide(x: u8) -> usize
+pub(crate) fn wide(x: u8) -> usize
     ensures { λ r. ⌜ (r ≡ x) × (r < 256) ⌝ }
 {
     x as usize

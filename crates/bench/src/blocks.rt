@@ -3,6 +3,7 @@ ghost use mathlib.Core.Path.{_≡_};
 ghost use Prim.Native.Nat.{_+_, _<_, _≤_};
 ghost use lib.ListN.{length};
 ghost use Rattle.aes.specs.Tables.{sbox, invSbox};
+ghost use Rattle.aes.specs.Products as Products;
 
 // The block at `at`.
 fn block(s: &[u8], at: usize) -> [u8; 16]
@@ -32,13 +33,13 @@ pub fn encrypt(w: &[u8; 240], rounds: usize, table: &[u8; 256], s: &mut [u8])
     }
 }
 
-pub fn decrypt(w: &[u8; 240], rounds: usize, table: &[u8; 256], s: &mut [u8])
-    requires { ⌜ (0 < rounds) × (rounds ≤ 14) × (length (now w) ≡ 240) × (now table ≡ invSbox) ⌝ }
+pub fn decrypt(w: &[u8; 240], rounds: usize, table: &[u8; 256], shares: &[u32; 256], s: &mut [u8])
+    requires { ⌜ (0 < rounds) × (rounds ≤ 14) × (length (now w) ≡ 240) × (now table ≡ invSbox) × (now shares ≡ Products.shares) ⌝ }
 {
     let n = s.len() / 16;
     let mut i = 0;
     while i < n {
-        let b = aes::rounds::inv_cipher(w, rounds, table, block(s, 16 * i));
+        let b = aes::rounds::inv_cipher(w, rounds, table, shares, block(s, 16 * i));
         put(s, 16 * i, b);
         i += 1;
     }

@@ -39,7 +39,8 @@ pub extern "C" fn bench_decrypt(key: &[u8], buf: &mut [u8]) -> u64 {
     }
     let w = e.bytes;
     let table = aes::tables::INV_SBOX;
-    blocks::decrypt(&w, rounds, &table, buf);
+    let shares = aes::products::shares();
+    blocks::decrypt(&w, rounds, &table, &shares, buf);
     0
 }
 

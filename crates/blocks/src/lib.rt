@@ -1,6 +1,6 @@
 // A stream of 16-byte blocks under AES in ECB mode (000 section 7), out of one lent slice into another.
 //
-// The key comes expanded. It and the table are copied once a stream and lent to each block. A contract says which bytes of the
+// The key comes expanded. It and the tables are copied once a stream and lent to each block. A contract says which bytes of the
 // output are written and with what; the rest of it is as it was.
 ghost use mathlib.Core.Path.{_≡_};
 ghost use mathlib.Core.List.{_++_};
@@ -8,9 +8,11 @@ ghost use Prim.Native.Nat.{_+_, _*_, _/_, _%_, _<_, _≤_, min};
 ghost use lib.ListN.{length, take, drop};
 ghost use lib.Seq.{paste};
 ghost use Rattle.aes.specs.Tables.{sbox, invSbox};
+ghost use Rattle.aes.specs.Products as Products;
 ghost use Rattle.aes.specs.Cipher.{keyOf, cipher, invCipher};
 ghost use Rattle.blocks.specs.Blocks.{ecb, encrypting, decrypting};
 use aes::Expanded;
+use aes::products;
 use aes::rounds;
 use aes::tables;
 
@@ -49,17 +51,18 @@ fn part(left: usize) -> usize
     16
 }
 
-// `decrypt`, with the key and the table lent.
+// `decrypt`, with the key and the tables lent.
 fn decrypt_with(
     w: &[u8; 240],
     rounds: usize,
     table: &[u8; 256],
+    shares: &[u32; 256],
     src: &[u8],
     size: usize,
     out: &mut [u8],
 )
     requires { ⌜ (0 < rounds) × (rounds ≤ 14) ⌝ }
-    requires { ⌜ (length (now w) ≡ 240) × (now table ≡ invSbox) ⌝ }
+    requires { ⌜ (length (now w) ≡ 240) × (now table ≡ invSbox) × (now shares ≡ Products.shares) ⌝ }
     requires { ⌜ (size ≤ 16 * (length (now src) / 16)) × (size ≤ length (now out)) ⌝ }
     ensures { λ _. ⌜ now (out .exit) ≡ paste (now (out .entry)) 0 (ecb (invCipher (keyOf (now (w .entry))) rounds) (now (src .entry))) size ⌝ }
 {
@@ -67,7 +70,7 @@ fn decrypt_with(
     while i < size {
         let n = part(size - i);
         let sealed = block(src, i);
-        let plain = rounds::inv_cipher(w, rounds, table, sealed);
+        let plain = rounds::inv_cipher(w, rounds, table, shares, sealed);
         octets::copy(&plain, 0, n, out, i);
         i += n;
     }
@@ -81,7 +84,8 @@ pub fn decrypt(key: Expanded, src: &[u8], size: usize, out: &mut [u8])
 {
     let w = key.bytes;
     let table = tables::INV_SBOX;
-    decrypt_with(&w, key.rounds, &table, src, size, out);
+    let shares = products::shares();
+    decrypt_with(&w, key.rounds, &table, &shares, src, size, out);
 }
 
 // `encrypt`, with the key, the table and the filling lent.

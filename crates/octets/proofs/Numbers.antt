@@ -3,14 +3,14 @@
 use mathlib.Core.Path.{_≡_, refl, sym, ap, subst, _∙_}
 use mathlib.Core.List.{List, [], _∷_, _++_, reverse, reverse-append, reverse-reverse}
 use Prim.Native.Nat.{ℕ, zero, suc, _+_, _-_, _*_, _/_, _%_, _^_, _≤_, _<_}
-use native.Mathlib.Nat.{pow-suc, pow-succ', one-le-pow, mul-assoc, suc-add, zero-add, div-div-eq-div-mul, div-eq-of-lt}
+use native.Mathlib.Nat.{pow-suc, pow-succ', one-le-pow, mul-assoc, suc-add, zero-add, mod-lt, div-div-eq-div-mul, div-eq-of-lt}
 use native.Mathlib.Omega.{arith}
 use lib.Arith.{mod-mul}
 use lib.ListN.{replicate, length, getD, take, drop, length-reverse}
-use lib.Seq.{paste, take-add, take-nil, take-at, drop-drop, drop-append-add}
+use lib.Seq.{paste, take-add, take-nil, take-all, take-at, drop-drop, drop-append-add}
 use Rattle.octets.specs.Octets.{Bytes, le, leBytes, leAt, be, beBytes, beAt}
 use Rattle.octets.proofs.Below.{tail-below, take-below, drop-below, reverse-below}
-use Rattle.octets.proofs.Parts.{length-part, part-part, part-paste, reverse-replicate}
+use Rattle.octets.proofs.Parts.{length-part, part-part, paste-whole, part-paste, reverse-replicate}
 
 part-bytes : (n at : ℕ) (s : List ℕ) → Bytes s → Bytes (take n (drop at s))
 part-bytes n at s b = take-below n (drop at s) (drop-below at s b)
@@ -23,6 +23,15 @@ length-leBytes (suc n) v = ap suc (length-leBytes n (v / 256))
 pub length-beBytes : (n v : ℕ) → length (beBytes n v) ≡ n
 unfolding beBytes
 length-beBytes n v = length-reverse (leBytes n v) ∙ length-leBytes n v
+
+pub le-nil : le [] ≡ 0
+unfolding le
+le-nil = refl
+
+-- the lowest byte, and the others above it
+pub le-cons : (b : ℕ) (s : List ℕ) → le (b ∷ s) ≡ le s * 256 + b
+unfolding le
+le-cons b s = omega arith
 
 -- a number of n bytes is below 256 ^ n
 pub le-lt : (s : List ℕ) → Bytes s → le s < 256 ^ length s
@@ -98,6 +107,10 @@ leBytes-low (suc n) v =
     let high : v % 256 ^ suc n / 256 ≡ v / 256 % 256 ^ n = omega arith in
     rw (low, high, leBytes-low n (v / 256))
 
+-- the number of a number's n lowest bytes
+pub le-low : (n v : ℕ) → le (leBytes n v) ≡ v % 256 ^ n
+le-low n v = ap le (sym (leBytes-low n v)) ∙ le-leBytes n (v % 256 ^ n) (mod-lt v (one-le-pow n 256 (omega arith)))
+
 -- v by its low n bytes and what is above them
 pub leBytes-two : (n m v : ℕ) → leBytes n (v % 256 ^ n) ++ leBytes m (v / 256 ^ n) ≡ leBytes (n + m) v
 leBytes-two n m v = rw leBytes-low (sym (leBytes-add n m v))
@@ -142,6 +155,11 @@ unfolding beAt
 beAt-add n m o s h =
     rw (take-add, drop-drop, be-append, length-part m (o + n) s h)
 
+-- the whole of a list
+pub leAt-whole : (n : ℕ) (s : List ℕ) → length s ≡ n → leAt n 0 s ≡ le s
+unfolding leAt
+leAt-whole n s e = ap le (take-all n s (omega arith))
+
 pub leAt-one : (o : ℕ) (s : List ℕ) → leAt 1 o s ≡ getD s o 0
 unfolding leAt le
 leAt-one zero [] = refl
@@ -166,6 +184,10 @@ leAt-paste n v at d hv hd = ap le (part-paste d (leBytes n v) at n (length-leByt
 pub beAt-paste : (n v at : ℕ) (d : List ℕ) → v < 256 ^ n → at + n ≤ length d → beAt n at (paste d at (beBytes n v) n) ≡ v
 unfolding beAt
 beAt-paste n v at d hv hd = ap be (part-paste d (beBytes n v) at n (length-beBytes n v) hd) ∙ be-beBytes n v hv
+
+-- a number laid over all of a buffer
+pub leBytes-over : (n v : ℕ) (d : List ℕ) → length d ≡ n → paste d 0 (leBytes n v) n ≡ leBytes n v
+leBytes-over n v d e = paste-whole d (leBytes n v) n e ∙ take-all n (leBytes n v) (omega (arith, length-leBytes n v))
 
 -- the bytes of the number at a place are those that stand there
 pub leBytes-leAt : (n at : ℕ) (s : List ℕ) → Bytes s → at + n ≤ length s → leBytes n (leAt n at s) ≡ take n (drop at s)

@@ -5,7 +5,9 @@ use Rattle.aes.proofs.decrypt.Statement.{statement}
 use Rattle.aes.proofs.decrypt.Tie as tie
 
 returns : tie.Need-returns
-returns c = cc (decrypted-expanded (c .before .before .before .args .key .now) (c .before .before .before .args .block))
+returns c =
+    let a = c .before .before .before .args in
+    rw (c .decrypt-block .ensures, c .before .expand .ensures) (decrypted-expanded (a .key .now) (a .block))
 
 pub decrypt-spec : {M : Type 1} → statement M
 decrypt-spec = tie.close (tie.spec (λ c κs. search needs) (λ c κs. search needs) returns)

@@ -11,13 +11,14 @@ use Rattle.aes.proofs.decrypt_block.Tie as tie
 inv-cipher-requires : tie.Need-inv-cipher-requires
 unfolding invSbox
 inv-cipher-requires c κs =
-    let h = within (c .before .before .before .before .args .key .rounds) (c .before .before .before .match .keys1) in
-    (h .0, h .1, search needs, refl)
+    let st = c .before .before .before .before .before in
+    let h = within (st .before .args .key .rounds) (st .match .keys1) in
+    ((h .0, h .1, search needs), (refl, c .before .before .before .shares .ensures))
 
 returns : tie.Need-returns
 unfolding decryptedBy
 returns c =
-    let st = c .before .before .before .before .before in
+    let st = c .before .before .before .before .before .before .before in
     c .accepted .ensures ∙ answered invCipher (st .before .args .block) (st .before .args .key) _ (st .match .keys1) (c .before .inv-cipher .ensures)
 
 returns-2 : tie.Need-returns-2
@@ -28,4 +29,4 @@ returns-2 c =
 
 pub decrypt-block-spec : {M : Type 1} → statement M
 decrypt-block-spec =
-    tie.close (tie.spec inv-cipher-requires (λ c κs. search needs) (λ c κs. search needs) returns returns-2)
+    tie.close (tie.spec (λ c κs. search needs) inv-cipher-requires (λ c κs. search needs) (λ c κs. search needs) returns returns-2)

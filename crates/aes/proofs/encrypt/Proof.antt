@@ -5,7 +5,9 @@ use Rattle.aes.proofs.encrypt.Statement.{statement}
 use Rattle.aes.proofs.encrypt.Tie as tie
 
 returns : tie.Need-returns
-returns c = cc (encrypted-expanded (c .before .before .before .args .key .now) (c .before .before .before .args .block))
+returns c =
+    let a = c .before .before .before .args in
+    rw (c .encrypt-block .ensures, c .before .expand .ensures) (encrypted-expanded (a .key .now) (a .block))
 
 pub encrypt-spec : {M : Type 1} → statement M
 encrypt-spec = tie.close (tie.spec (λ c κs. search needs) (λ c κs. search needs) returns)

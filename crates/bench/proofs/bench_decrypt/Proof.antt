@@ -1,4 +1,4 @@
--- The expanded key has 240 bytes, and the table is the table.
+-- The expanded key has 240 bytes, the table is the table, and the shares are as they were laid.
 use mathlib.Core.Path.{refl, ap, _∙_}
 use native.Mathlib.Omega.{arith}
 use borrow.Author.Needs.{needs}
@@ -12,9 +12,18 @@ use Rattle.bench.proofs.bench_decrypt.Tie as tie
 decrypt-requires : tie.Need-decrypt-requires
 unfolding invSbox
 decrypt-requires c κs =
-    let e = c .before .before .before .before .before .before .expand in
-    (omega arith, omega arith, ap (λ (x : Expanded). length (x .bytes)) (e .ensures) ∙ length-expanded _, refl)
+    let s = c .before .before .before .before in
+    let e = s .before .before .before .before .expand in
+    (omega arith, omega arith, ap (λ (x : Expanded). length (x .bytes)) (e .ensures) ∙ length-expanded _, refl, s .shares .ensures)
 
 pub bench-decrypt-spec : {M : Type 1} → statement M
 bench-decrypt-spec =
-    tie.close (tie.spec (λ c κs. search needs) (λ c. search needs) (λ c. search needs) decrypt-requires (λ c. search needs) (λ c. search needs))
+    tie.close
+    (tie.spec
+    (λ c κs. search needs)
+    (λ c. search needs)
+    (λ c. search needs)
+    (λ c κs. search needs)
+    decrypt-requires
+    (λ c. search needs)
+    (λ c. search needs))

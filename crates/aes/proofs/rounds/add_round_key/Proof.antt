@@ -14,26 +14,26 @@ abbrev byte : List ℕ → ℕ → List ℕ → ℕ → ℕ
 byte w n s i = xor (getD s i 0) (getD w (16 * n + i) 0)
 
 abbrev Inv-loop : tie.InvT-loop
-Inv-loop w n s t₀ i₀ t i = Filled (byte w n s) i t
+Inv-loop w n s t₀ i₀ t i = Filled 16 (byte w n s) i t
 
 abbrev μ-loop : tie.MeasureT-loop
 μ-loop w n s t₀ i₀ t i = 16 - i
 
 loop-holds : tie.Need-loop-holds Inv-loop μ-loop
-loop-holds c = filled-none _ _ refl
+loop-holds c = filled-none 16 _ _ refl
 
 loop-again : tie.Need-loop-again Inv-loop μ-loop
 unfolding xor
 loop-again c =
     let a = c .before .before .before .args in
     let at = c .before .before .loop in
-    filled-more (byte (a .w .now) (a .n) (a .t3)) (at .i) (at .t) _ (c .before .loop-test .taken) (at .inv) refl
+    filled-more 16 (byte (a .w .now) (a .n) (a .t3)) (at .i) (at .t) _ (c .before .loop-test .taken) (at .inv) refl
 
 returns : tie.Need-returns Inv-loop μ-loop
 returns c =
     let a = c .before .before .args in
     let size : length (a .t3) ≡ 16 = search needs in
-    filled-all (byte (a .w .now) (a .n) (a .t3)) (c .before .loop .i) (c .before .loop .t) (c .loop-test .left) (c .before .loop .inv)
+    filled-all 16 (byte (a .w .now) (a .n) (a .t3)) (c .before .loop .i) (c .before .loop .t) (c .loop-test .left) (c .before .loop .inv)
     ∙ added (a .t3) (a .w .now) (a .n) size (omega arith)
 
 pub add-round-key-spec : {M : Type 1} → statement M

@@ -1,5 +1,5 @@
 -- After the turn of round n the state has gone through rounds 1 to n.
-use mathlib.Core.Path.{_≡_, refl, ap, _∙_}
+use mathlib.Core.Path.{_≡_, refl, sym, ap, _∙_}
 use Prim.Native.Nat.{_+_, _-_, _<_, _≤_}
 use native.Mathlib.Omega.{arith}
 use borrow.Author.Needs.{needs}
@@ -25,7 +25,7 @@ loop-again c =
     let at = c .before .before .loop in
     let key = Cipher.keyOf (c .before .before .before .before .args .w .now) in
     let e : at .n + 1 - 1 ≡ at .n = omega arith in
-    (omega arith, omega arith, rw e (cc (rounds-more key (at .n) (c .before .before .before .add-round-key .result) (at .inv .0))))
+    (omega arith, omega arith, rw e (c .round .ensures ∙ ap (Cipher.round key (at .n)) (at .inv .2) ∙ sym (rounds-more key (at .n) _ (at .inv .0))))
 
 sub-bytes-requires : tie.Need-sub-bytes-requires Inv-loop μ-loop
 sub-bytes-requires c κs = ap length (c .before .before .before .pre .3) ∙ length-sbox
@@ -33,8 +33,18 @@ sub-bytes-requires c κs = ap length (c .before .before .before .pre .3) ∙ len
 returns : tie.Need-returns Inv-loop μ-loop
 unfolding Cipher.cipher Cipher.subBytes
 returns c =
-    let e : c .before .before .before .before .loop .n ≡ c .before .before .before .before .before .before .args .rounds = omega arith in
-    cc
+    let at = c .before .before .before .before .loop in
+    let st = c .before .before .before .before .before .before in
+    let all : at .n ≡ st .args .rounds = omega arith in
+    rw (
+      c .add-round-key2 .ensures,
+      c .before .shift-rows .ensures,
+      c .before .before .sub-bytes .ensures,
+      at .inv .2,
+      c .before .before .before .before .before .add-round-key .ensures,
+      st .pre .3,
+      all,
+    )
 
 pub cipher-spec : {M : Type 1} → statement M
 cipher-spec =

@@ -1,5 +1,5 @@
 -- Before the turn of round n, rounds n down to 1 are still to come.
-use mathlib.Core.Path.{_≡_, refl, ap, _∙_}
+use mathlib.Core.Path.{_≡_, refl, sym, ap, _∙_}
 use Prim.Native.Nat.{_-_, _<_}
 use native.Mathlib.Omega.{arith}
 use borrow.Author.Needs.{needs}
@@ -11,10 +11,10 @@ use Rattle.aes.proofs.rounds.inv_cipher.Statement.{statement}
 use Rattle.aes.proofs.rounds.inv_cipher.Tie as tie
 
 abbrev Inv-loop : tie.InvT-loop
-Inv-loop w rounds table s₀ n₀ s n = (n < rounds) × (Cipher.invRounds (Cipher.keyOf w) n s ≡ Cipher.invRounds (Cipher.keyOf w) (rounds - 1) s₀)
+Inv-loop w rounds table shares s₀ n₀ s n = (n < rounds) × (Cipher.invRounds (Cipher.keyOf w) n s ≡ Cipher.invRounds (Cipher.keyOf w) (rounds - 1) s₀)
 
 abbrev μ-loop : tie.MeasureT-loop
-μ-loop w rounds table s₀ n₀ s n = n
+μ-loop w rounds table shares s₀ n₀ s n = n
 
 loop-holds : tie.Need-loop-holds Inv-loop μ-loop
 loop-holds c = (omega arith, refl)
@@ -23,17 +23,22 @@ loop-again : tie.Need-loop-again Inv-loop μ-loop
 loop-again c =
     let at = c .before .before .loop in
     let key = Cipher.keyOf (c .before .before .before .before .args .w .now) in
-    (omega arith, cc (invRounds-less key (at .n) (at .s) (omega arith)))
+    (omega arith, ap (Cipher.invRounds key (at .n - 1)) (c .inv-round .ensures) ∙ sym (invRounds-less key (at .n) (at .s) (omega arith)) ∙ at .inv .1)
 
 sub-bytes-requires : tie.Need-sub-bytes-requires Inv-loop μ-loop
-sub-bytes-requires c κs = ap length (c .before .before .before .before .pre .3) ∙ length-invSbox
+sub-bytes-requires c κs = ap length (c .before .before .before .before .pre .1 .0) ∙ length-invSbox
 
 returns : tie.Need-returns Inv-loop μ-loop
 unfolding Cipher.invCipher Cipher.invSubBytes
 returns c =
     let at = c .before .before .before .before .loop in
-    let e : at .n ≡ 0 = omega arith in
-    cc (invRounds-none (Cipher.keyOf (c .before .before .before .before .before .before .args .w .now)) (at .s))
+    let st = c .before .before .before .before .before .before in
+    let key = Cipher.keyOf (st .args .w .now) in
+    let none : at .n ≡ 0 = omega arith in
+    let gone : at .s ≡ Cipher.invRounds key (st .args .rounds - 1) (Cipher.addRoundKey (st .args .block) (key (st .args .rounds))) =
+    sym (invRounds-none key (at .s)) ∙ ap (λ n. Cipher.invRounds key n (at .s)) (sym none) ∙ at .inv .1
+    ∙ ap (Cipher.invRounds key (st .args .rounds - 1)) (c .before .before .before .before .before .add-round-key .ensures) in
+    rw (c .add-round-key2 .ensures, c .before .sub-bytes .ensures, c .before .before .inv-shift-rows .ensures, st .pre .1 .0, gone)
 
 pub inv-cipher-spec : {M : Type 1} → statement M
 inv-cipher-spec =

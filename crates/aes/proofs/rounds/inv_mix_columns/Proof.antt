@@ -10,7 +10,7 @@ use Rattle.aes.proofs.rounds.inv_mix_columns.Tie as tie
 returns : tie.Need-returns
 unfolding columns invMixColumns
 returns c =
-    let s = c .before .before .before .before .before .args .t1 in
+    let s = c .before .before .before .before .before .args .t2 in
     let size : length s ≡ 16 = search needs in
     by-columns invMixColumns s _ _ _ _ _ size (c .joined .ensures)
     (c .before .before .before .before .inv-mix-column .ensures) (c .before .before .before .inv-mix-column2 .ensures)

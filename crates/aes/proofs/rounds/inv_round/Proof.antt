@@ -12,7 +12,14 @@ sub-bytes-requires c κs = ap length (c .before .pre .2) ∙ length-invSbox
 
 returns : tie.Need-returns
 unfolding invSubBytes invRound
-returns c = cc
+returns c =
+    rw (
+      c .inv-mix-columns .ensures,
+      c .before .add-round-key .ensures,
+      c .before .before .sub-bytes .ensures,
+      c .before .before .before .inv-shift-rows .ensures,
+      c .before .before .before .before .pre .2,
+    )
 
 pub inv-round-spec : {M : Type 1} → statement M
 inv-round-spec =

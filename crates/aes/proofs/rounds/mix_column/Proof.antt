@@ -6,7 +6,13 @@ use Rattle.aes.proofs.rounds.mix_column.Tie as tie
 
 returns : tie.Need-returns
 unfolding columns mixColumns
-returns c = cc
+returns c =
+    rw (
+      c .mix-row4 .ensures,
+      c .before .mix-row3 .ensures,
+      c .before .before .mix-row2 .ensures,
+      c .before .before .before .mix-row .ensures,
+    )
 
 pub mix-column-spec : {M : Type 1} → statement M
 mix-column-spec =

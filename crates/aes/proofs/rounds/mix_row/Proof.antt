@@ -7,7 +7,7 @@ use Rattle.aes.proofs.rounds.mix_row.Tie as tie
 
 returns : tie.Need-returns
 unfolding xor
-returns c = let a = c .before .args in cc (mix-row (a .a) (a .b) (a .c) (a .d))
+returns c = let a = c .before .args in rw (c .double .ensures) (mix-row (a .a) (a .b) (a .c) (a .d))
 
 pub mix-row-spec : {M : Type 1} → statement M
 mix-row-spec = tie.close (tie.spec (λ c κs. search needs) returns)

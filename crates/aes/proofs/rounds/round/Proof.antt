@@ -12,7 +12,14 @@ sub-bytes-requires c κs = ap length (c .pre .2) ∙ length-sbox
 
 returns : tie.Need-returns
 unfolding subBytes round
-returns c = cc
+returns c =
+    rw (
+      c .add-round-key .ensures,
+      c .before .mix-columns .ensures,
+      c .before .before .shift-rows .ensures,
+      c .before .before .before .sub-bytes .ensures,
+      c .before .before .before .before .pre .2,
+    )
 
 pub round-spec : {M : Type 1} → statement M
 round-spec =

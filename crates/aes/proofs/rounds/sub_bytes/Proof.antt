@@ -15,25 +15,25 @@ abbrev byte : List ℕ → List ℕ → ℕ → ℕ
 byte table s i = look table (getD s i 0)
 
 abbrev Inv-loop : tie.InvT-loop
-Inv-loop table s t₀ i₀ t i = Filled (byte table s) i t
+Inv-loop table s t₀ i₀ t i = Filled 16 (byte table s) i t
 
 abbrev μ-loop : tie.MeasureT-loop
 μ-loop table s t₀ i₀ t i = 16 - i
 
 loop-holds : tie.Need-loop-holds Inv-loop μ-loop
-loop-holds c = filled-none _ _ refl
+loop-holds c = filled-none 16 _ _ refl
 
 loop-again : tie.Need-loop-again Inv-loop μ-loop
 loop-again c =
     let a = c .before .before .before .args in
     let at = c .before .before .loop in
-    filled-more (byte (a .table .now) (a .t2)) (at .i) (at .t) _ (c .before .loop-test .taken) (at .inv) (c .look .ensures)
+    filled-more 16 (byte (a .table .now) (a .t2)) (at .i) (at .t) _ (c .before .loop-test .taken) (at .inv) (c .look .ensures)
 
 returns : tie.Need-returns Inv-loop μ-loop
 returns c =
     let a = c .before .before .args in
     let size : length (a .t2) ≡ 16 = search needs in
-    filled-all (byte (a .table .now) (a .t2)) (c .before .loop .i) (c .before .loop .t) (c .loop-test .left) (c .before .loop .inv)
+    filled-all 16 (byte (a .table .now) (a .t2)) (c .before .loop .i) (c .before .loop .t) (c .loop-test .left) (c .before .loop .inv)
     ∙ ap (map (look (a .table .now))) (opened 16 (a .t2) size)
 
 pub sub-bytes-spec : {M : Type 1} → statement M

@@ -12,7 +12,12 @@ returns : tie.Need-returns
 returns c =
     let a = c .before .before .before .before .args in
     let size : length (a .t2) ≡ 4 = search needs in
-    cc (ap (map (look (a .table .now))) (opened 4 (a .t2) size))
+    rw (
+      c .look4 .ensures,
+      c .before .look3 .ensures,
+      c .before .before .look2 .ensures,
+      c .before .before .before .look .ensures,
+    ) (ap (map (look (a .table .now))) (opened 4 (a .t2) size))
 
 pub sub-word-spec : {M : Type 1} → statement M
 sub-word-spec =
