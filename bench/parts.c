@@ -81,7 +81,12 @@ static void set_key(size_t bits)
     rounds = key_size / 4 + 6;
     for (size_t i = 0; i < key_size; i++) key[i] = (unsigned char)i;
     AES_set_encrypt_key(key, (int)bits, &words);
-    memcpy(expanded, words.rd_key, 16 * (rounds + 1)); /* OpenSSL keeps each word high byte first */
+    memcpy(expanded, words.rd_key, 16 * (rounds + 1));
+    int turned = memcmp(expanded, key, 4) != 0; /* OpenSSL's C keeps a word as the processor does, its assembly high byte first */
+    for (size_t i = 0; turned && i < 16 * (rounds + 1); i += 4) {
+        unsigned char *w = expanded + i, first = w[0], second = w[1];
+        w[0] = w[3], w[1] = w[2], w[2] = second, w[3] = first;
+    }
 }
 
 /* the substitution, by the field: powers of 3 beside powers of its inverse */

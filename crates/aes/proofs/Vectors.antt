@@ -1,14 +1,17 @@
--- The worked examples of FIPS 197 as theorems: appendix A's last round keys and appendix C's blocks, both ways, by computing the
--- definitions. Assumes nothing.
-use mathlib.Core.Path.{_≡_, refl}
+-- The worked examples of FIPS 197 as theorems: appendix A's last round keys and appendix C's blocks, by computing the definitions, and
+-- the way back from those blocks. Assumes nothing.
+use mathlib.Core.Path.{_≡_, refl, sym, ap, _∙_}
+use mathlib.Core.Bool.{true}
 use mathlib.Core.List.{List, [], _∷_, map}
 use Prim.Native.Nat.{ℕ}
-use lib.ListN.{getD, replicate}
+use lib.ListN.{length, getD, replicate}
 use Rattle.aes.specs.Field.{xor, double, bit, mulBy, mul}
-use Rattle.aes.specs.Tables.{look, sbox, invSbox, roundConstants, roundConstant}
-use Rattle.aes.specs.Cipher.{subBytes, invSubBytes, tabulate, shift, shiftRows, invShiftRows, row, columns, mixColumns, invMixColumns, addRoundKey, keyOf, round, invRound, rounds, invRounds, cipher, invCipher}
+use Rattle.aes.specs.Tables.{look, sbox, roundConstants, roundConstant}
+use Rattle.aes.specs.Cipher.{subBytes, tabulate, shift, shiftRows, row, columns, mixColumns, addRoundKey, keyOf, round, rounds, cipher}
 use Rattle.aes.specs.Expansion.{word, rotWord, turned, next, longer, extended, roundsFor, schedule}
-use Rattle.aes.specs.Aes.{keyLength, wordsOf, encryption, decryption, done, refused, encrypted, decrypted}
+use Rattle.aes.specs.declared.Reply.{Reply}
+use Rattle.aes.specs.Aes.{keyLength, wordsOf, encryption, done, refused, encrypted, decrypted}
+use Rattle.aes.proofs.Keys.{decrypted-encrypted}
 
 -- ---- appendix A: each key, and its last round key
 
@@ -55,11 +58,19 @@ appendix-C = refl
 abbrev block : ℕ → List ℕ
 block i = getD sealed i []
 
+-- the way back from what a key made of the block
+undone : (k b : List ℕ) → keyLength (length k) ≡ true → encrypted k plain ≡ done b → decrypted k b ≡ done plain
+unfolding done
+undone k b t e = ap (λ (r : Reply). decrypted k (r .block)) (sym e) ∙ decrypted-encrypted k plain t refl
+
 pub appendix-C-back :
     decrypted (rising 16) (block 0) ∷ decrypted (rising 24) (block 1) ∷ decrypted (rising 32) (block 2) ∷ []
     ≡ done plain ∷ done plain ∷ done plain ∷ []
-unfolding decrypted decryption keyLength wordsOf done invCipher invRounds invRound invSubBytes invSbox invShiftRows shift invMixColumns columns row mul mulBy bit schedule roundsFor extended longer next turned rotWord word addRoundKey subBytes roundConstant roundConstants look sbox double xor keyOf
-appendix-C-back = refl
+unfolding keyLength
+appendix-C-back =
+    λ j. undone (rising 16) (block 0) refl (ap (λ (rs : List Reply). getD rs 0 refused) appendix-C) j
+    ∷ undone (rising 24) (block 1) refl (ap (λ (rs : List Reply). getD rs 1 refused) appendix-C) j
+    ∷ undone (rising 32) (block 2) refl (ap (λ (rs : List Reply). getD rs 2 refused) appendix-C) j ∷ []
 
 -- ---- keys of other lengths
 
