@@ -1,5 +1,6 @@
 /* C of the same shape as the crates, compiled by the toolchain's own clang: what the language costs. That clang has no headers. */
 typedef __UINT32_TYPE__ u32;
+typedef __UINT64_TYPE__ u64;
 typedef __SIZE_TYPE__ size;
 typedef unsigned char u8;
 
@@ -72,67 +73,70 @@ void baseline_sha1(const u8 *m, size n, u8 *out)
     put(out + 16, s.e);
 }
 
-/* ---- AES in bytes, tables and expanded key lent: MixColumns by doublings, InvMixColumns by a word of products for each byte */
+/* ---- AES by columns, tables and expanded keys lent: the words of a column's four bytes, each moved to its row, and the key's */
 
-static u8 twice(u8 a) { return (u8)(a << 1) ^ (u8)((a >> 7) * 0x1b); }
+struct block { u8 b[16]; };
 
 static u32 up(u32 x, unsigned bytes) { return x << 8 * bytes | x >> (32 - 8 * bytes); }
 
-static void add_key(const u8 *w, size r, u8 *s)
+static u32 word(const u8 *s) { return s[0] | (u32)s[1] << 8 | (u32)s[2] << 16 | (u32)s[3] << 24; }
+
+static struct block shifted(struct block s)
 {
-    for (size i = 0; i < 16; i++) s[i] ^= w[16 * r + i];
+    const u8 *b = s.b;
+    return (struct block){{b[0], b[5], b[10], b[15], b[4], b[9], b[14], b[3], b[8], b[13], b[2], b[7], b[12], b[1], b[6], b[11]}};
 }
 
-static void turn(const u8 *table, const u8 *places, u8 *s)
+static struct block unshifted(struct block s)
 {
-    u8 t[16];
-    for (size i = 0; i < 16; i++) t[i] = table[s[places[i]]];
-    for (size i = 0; i < 16; i++) s[i] = t[i];
+    const u8 *b = s.b;
+    return (struct block){{b[0], b[13], b[10], b[7], b[4], b[1], b[14], b[11], b[8], b[5], b[2], b[15], b[12], b[9], b[6], b[3]}};
 }
 
-static void mix_columns(u8 *s)
+static u64 half(const u8 *s) { return word(s) | (u64)word(s + 4) << 32; }
+
+static struct block add_key(const u8 *key, struct block s)
 {
+    for (size i = 0; i < 16; i += 8) {
+        u64 sum = half(s.b + i) ^ half(key + i);
+        for (size j = 0; j < 8; j++) s.b[i + j] = (u8)(sum >> 8 * j);
+    }
+    return s;
+}
+
+static struct block substituted(const u8 *table, struct block s)
+{
+    for (size i = 0; i < 16; i++) s.b[i] = table[s.b[i]];
+    return s;
+}
+
+static struct block inner_round(const u32 *words, const u8 *key, struct block s)
+{
+    struct block t;
     for (size c = 0; c < 16; c += 4) {
-        u8 a[4] = {s[c], s[c + 1], s[c + 2], s[c + 3]};
-        for (size j = 0; j < 4; j++) s[c + j] = twice(a[j] ^ a[(j + 1) % 4]) ^ a[(j + 1) % 4] ^ a[(j + 2) % 4] ^ a[(j + 3) % 4];
+        const u8 *b = s.b + c;
+        u32 sum = word(key + c) ^ words[b[0]] ^ up(words[b[1]], 1) ^ up(words[b[2]], 2) ^ up(words[b[3]], 3);
+        for (size j = 0; j < 4; j++) t.b[c + j] = (u8)(sum >> 8 * j);
+    }
+    return t;
+}
+
+void baseline_encrypt(const u8 *restrict w, size rounds, const u8 *restrict table, const u32 *restrict words, struct block *restrict buf, size n)
+{
+    for (struct block *at = buf; at < buf + n / 16; at++) {
+        struct block s = add_key(w, *at);
+        for (size r = 1; r < rounds; r++) s = inner_round(words, w + 16 * r, shifted(s));
+        *at = add_key(w + 16 * rounds, shifted(substituted(table, s)));
     }
 }
 
-static void unmix_columns(const u32 *shares, u8 *s)
+/* mixed: the round keys through InvMixColumns */
+void baseline_decrypt(const u8 *restrict w, const u8 *restrict mixed, size rounds, const u8 *restrict table, const u32 *restrict words,
+                      struct block *restrict buf, size n)
 {
-    for (size c = 0; c < 16; c += 4) {
-        u32 sum = shares[s[c]] ^ up(shares[s[c + 1]], 1) ^ up(shares[s[c + 2]], 2) ^ up(shares[s[c + 3]], 3);
-        for (size j = 0; j < 4; j++) s[c + j] = (u8)(sum >> 8 * j);
-    }
-}
-
-static const u8 left[16] = {0, 5, 10, 15, 4, 9, 14, 3, 8, 13, 2, 7, 12, 1, 6, 11};
-static const u8 right[16] = {0, 13, 10, 7, 4, 1, 14, 11, 8, 5, 2, 15, 12, 9, 6, 3};
-
-void baseline_encrypt(const u8 *w, size rounds, const u8 *table, u8 *buf, size n)
-{
-    for (u8 *s = buf; s + 16 <= buf + n; s += 16) {
-        add_key(w, 0, s);
-        for (size r = 1; r < rounds; r++) {
-            turn(table, left, s);
-            mix_columns(s);
-            add_key(w, r, s);
-        }
-        turn(table, left, s);
-        add_key(w, rounds, s);
-    }
-}
-
-void baseline_decrypt(const u8 *w, size rounds, const u8 *table, const u32 *shares, u8 *buf, size n)
-{
-    for (u8 *s = buf; s + 16 <= buf + n; s += 16) {
-        add_key(w, rounds, s);
-        for (size r = rounds - 1; r > 0; r--) {
-            turn(table, right, s);
-            add_key(w, r, s);
-            unmix_columns(shares, s);
-        }
-        turn(table, right, s);
-        add_key(w, 0, s);
+    for (struct block *at = buf; at < buf + n / 16; at++) {
+        struct block s = add_key(w + 16 * rounds, *at);
+        for (size r = rounds - 1; r > 0; r--) s = inner_round(words, mixed + 16 * r, unshifted(s));
+        *at = add_key(w, substituted(table, unshifted(s)));
     }
 }

@@ -11,8 +11,9 @@ uint64_t bench_encrypt(const unsigned char *key, size_t k, unsigned char *buf, s
 uint64_t bench_decrypt(const unsigned char *key, size_t k, unsigned char *buf, size_t n);
 uint64_t bench_verdict(const unsigned char *info, size_t n, const uint16_t *password, size_t units);
 void baseline_sha1(const unsigned char *m, size_t n, unsigned char *out);
-void baseline_encrypt(const unsigned char *w, size_t rounds, const unsigned char *table, unsigned char *buf, size_t n);
-void baseline_decrypt(const unsigned char *w, size_t rounds, const unsigned char *table, const uint32_t *shares, unsigned char *buf, size_t n);
+void baseline_encrypt(const unsigned char *w, size_t rounds, const unsigned char *table, const uint32_t *words, unsigned char *buf, size_t n);
+void baseline_decrypt(const unsigned char *w, const unsigned char *mixed, size_t rounds, const unsigned char *table, const uint32_t *words,
+                      unsigned char *buf, size_t n);
 
 enum { LONG = 65536, ROUNDS = 15 };
 
@@ -70,9 +71,18 @@ static void hashing(const char *call, size_t n, int turns, double per, work *our
 
 /* ---- AES over out, in place; the key is expanded once a buffer, C's beforehand */
 
-static unsigned char key[32], expanded[240], there[256], back[256];
-static uint32_t shares[256];
+static unsigned char key[32], expanded[240], mixed[240], there[256], back[256];
+static uint32_t words_there[256], words_back[256];
 static size_t key_size, rounds;
+
+/* a product in the field */
+static unsigned char times(unsigned char a, unsigned char b)
+{
+    unsigned char sum = 0;
+    for (; b; b >>= 1, a = (unsigned char)((a << 1) ^ ((a >> 7) * 0x1b)))
+        if (b & 1) sum ^= a;
+    return sum;
+}
 
 static void set_key(size_t bits)
 {
@@ -87,17 +97,20 @@ static void set_key(size_t bits)
         unsigned char *w = expanded + i, first = w[0], second = w[1];
         w[0] = w[3], w[1] = w[2], w[2] = second, w[3] = first;
     }
+    for (size_t i = 0; i < 240; i++) /* InvMixColumns */
+        for (size_t j = 0; j < 4; j++) {
+            unsigned char by = times(expanded[i / 4 * 4 + j], (unsigned char[]){14, 11, 13, 9}[(j + 4 - i % 4) % 4]);
+            mixed[i] = j == 0 ? by : mixed[i] ^ by;
+        }
+}
+
+/* the share of the byte y in its column, once a matrix has the first column p */
+static uint32_t share(const unsigned char *p, unsigned char y)
+{
+    return times(y, p[0]) | (uint32_t)times(y, p[1]) << 8 | (uint32_t)times(y, p[2]) << 16 | (uint32_t)times(y, p[3]) << 24;
 }
 
 /* the substitution, by the field: powers of 3 beside powers of its inverse */
-static unsigned char times(unsigned char a, unsigned char b)
-{
-    unsigned char sum = 0;
-    for (; b; b >>= 1, a = (unsigned char)((a << 1) ^ ((a >> 7) * 0x1b)))
-        if (b & 1) sum ^= a;
-    return sum;
-}
-
 static void set_tables(void)
 {
     unsigned char p = 1, q = 1;
@@ -107,8 +120,10 @@ static void set_tables(void)
         there[p] = (unsigned char)(q ^ (v >> 7) ^ (v >> 6) ^ (v >> 5) ^ (v >> 4) ^ 0x63);
     }
     for (int x = 0; x < 256; x++) back[there[x]] = (unsigned char)x;
-    for (int x = 0; x < 256; x++) /* the products by 14, 9, 13 and 11, the first lowest */
-        for (int j = 0; j < 4; j++) shares[x] |= (uint32_t)times((unsigned char)x, (unsigned char[]){14, 9, 13, 11}[j]) << 8 * j;
+    for (int x = 0; x < 256; x++) {
+        words_there[x] = share((unsigned char[]){2, 1, 1, 3}, there[x]);
+        words_back[x] = share((unsigned char[]){14, 9, 13, 11}, back[x]);
+    }
 }
 
 static uint64_t encrypt_ours(const unsigned char *unused, size_t n, unsigned char *s)
@@ -126,14 +141,14 @@ static uint64_t decrypt_ours(const unsigned char *unused, size_t n, unsigned cha
 static uint64_t encrypt_c(const unsigned char *unused, size_t n, unsigned char *s)
 {
     (void)unused;
-    baseline_encrypt(expanded, rounds, there, s, n);
+    baseline_encrypt(expanded, rounds, there, words_there, s, n);
     return 0;
 }
 
 static uint64_t decrypt_c(const unsigned char *unused, size_t n, unsigned char *s)
 {
     (void)unused;
-    baseline_decrypt(expanded, rounds, back, shares, s, n);
+    baseline_decrypt(expanded, mixed, rounds, back, words_back, s, n);
     return 0;
 }
 

@@ -1,6 +1,6 @@
 /* Whole calls of the library, each of which derives its key, beside OpenSSL: a verdict, and opening and sealing by size. What other
    programs then measure is left in a folder: package, and for each key size info-BITS and the blocks that package is sealed to. The
-   library of another commit, as LIBRARY.so, opens and seals beside them.
+   library of another commit, as LIBRARY.so, does the same beside them.
        sheets portable|instructions [FOLDER [LIBRARY.so]] */
 #include "contest.h"
 #include "openssl.h"
@@ -46,8 +46,14 @@ static uint64_t seal_openssl(const unsigned char *package, size_t n, unsigned ch
     return openssl_seal(openssl.aes, info, package, n, filling, out, n + 24);
 }
 
+static __typeof__(ropeshadow_verdict) *base_verdict;
 static __typeof__(ropeshadow_open) *base_open;
 static __typeof__(ropeshadow_seal) *base_seal;
+
+static uint64_t verdict_base(const unsigned char *unused, size_t n, unsigned char *none)
+{
+    return (void)unused, (void)n, (void)none, base_verdict(info, INFO_SIZE, password, UNITS);
+}
 
 static uint64_t open_base(const unsigned char *stream, size_t n, unsigned char *out)
 {
@@ -62,8 +68,8 @@ static uint64_t seal_base(const unsigned char *package, size_t n, unsigned char 
 static void load(const char *library)
 {
     void *base = dlopen(library, RTLD_NOW | RTLD_LOCAL);
-    if (base) base_open = dlsym(base, "ropeshadow_open"), base_seal = dlsym(base, "ropeshadow_seal");
-    if (base_open && base_seal) return;
+    if (base) base_verdict = dlsym(base, "ropeshadow_verdict"), base_open = dlsym(base, "ropeshadow_open"), base_seal = dlsym(base, "ropeshadow_seal");
+    if (base_verdict && base_open && base_seal) return;
     fprintf(stderr, "%s\n", dlerror());
     exit(2);
 }
@@ -73,7 +79,7 @@ static void call(struct contest c, work *ours, work *by_openssl, work *by_base)
 {
     struct contestant each[3] = {{"ours", ours}, {openssl.name, by_openssl}, {"before", by_base}};
     c.each = each;
-    c.count = by_base && base_open ? 3 : 2;
+    c.count = base_open ? 3 : 2;
     c.rounds = c.bytes < LARGEST ? 15 : 3;
     c.turns = 1;
     c.per = 1;
@@ -95,7 +101,7 @@ static void key_size(size_t bits, unsigned char *package, unsigned char *stream,
 {
     lay_info(info, bits);
     must(verdict_ours(package, 0, out) == 0, "the password");
-    call((struct contest){.call = "verdict", .bits = bits}, verdict_ours, verdict_openssl, NULL);
+    call((struct contest){.call = "verdict", .bits = bits}, verdict_ours, verdict_openssl, verdict_base);
     static const size_t sizes[] = {1 << 10, 64 << 10, 1 << 20, LARGEST};
     for (int i = 0; i < 4; i++) {
         size_t n = sizes[i];

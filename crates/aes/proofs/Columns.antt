@@ -59,6 +59,15 @@ module _ (a b c d : ℕ) where
   unfolding row
   row-byte p q r t ha hb hc hd = xor-byte (xor-byte (xor-byte (mul-byte p a ha) (mul-byte q b hb)) (mul-byte r c hc)) (mul-byte t d hd)
 
+-- the products of MixColumns from one doubling
+pub by-doubling : (x : ℕ) → (double x ≡ mul 2 x) × (x ≡ mul 1 x) × (xor (double x) x ≡ mul 3 x)
+unfolding mul mulBy bit
+by-doubling x = (
+  decided x 0 0 0 (twice (var 0)) (mul′ 2 (var 0)) tt,
+  decided x 0 0 0 (var 0) (mul′ 1 (var 0)) tt,
+  decided x 0 0 0 (sum (twice (var 0)) (var 0)) (mul′ 3 (var 0)) tt,
+)
+
 -- ---- whole columns
 
 columns-undo : (m n : ℕ → ℕ → ℕ → ℕ → ℕ) → ((a b c d : ℕ) → twofold m n a b c d ≡ a) → (s : List ℕ) → columns m (columns n s) ≡ s
@@ -78,7 +87,7 @@ pub remixColumns : (s : List ℕ) → mixColumns (invMixColumns s) ≡ s
 unfolding mixColumns invMixColumns
 remixColumns = columns-undo (row 2 3 1 1) (row 14 11 13 9) remix
 
-length-columns : (m : ℕ → ℕ → ℕ → ℕ → ℕ) (s : List ℕ) → length (columns m s) ≡ length s
+pub length-columns : (m : ℕ → ℕ → ℕ → ℕ → ℕ) (s : List ℕ) → length (columns m s) ≡ length s
 unfolding columns
 length-columns m [] = refl
 length-columns m (a ∷ []) = refl

@@ -102,8 +102,8 @@ written : (t : List ℕ) → T (areBytes t) → Bytes t
 written [] h = nil-bytes
 written (x ∷ t) h = cons-below (ltb→lt x 256 (both (ltb x 256) (areBytes t) h .0)) (written t (both (ltb x 256) (areBytes t) h .1))
 
-look-byte : (t : List ℕ) → T (areBytes t) → (x : ℕ) → x < length t → look t x < 256
-look-byte t h x l = rw (look-in t x l) (written t h .at x)
+look-byte : (t : List ℕ) → length t ≡ 256 → Bytes t → (x : ℕ) → x < 256 → look t x < 256
+look-byte t h b x l = rw (look-in t x (omega (arith, l))) (b .at x)
 
 pub length-sbox : length sbox ≡ 256
 unfolding sbox
@@ -113,13 +113,19 @@ pub length-invSbox : length invSbox ≡ 256
 unfolding invSbox
 length-invSbox = refl
 
-pub sub-byte : (x : ℕ) → x < 256 → look sbox x < 256
+pub sbox-bytes : Bytes sbox
 unfolding sbox
-sub-byte = look-byte sbox tt
+sbox-bytes = written sbox tt
+
+pub invSbox-bytes : Bytes invSbox
+unfolding invSbox
+invSbox-bytes = written invSbox tt
+
+pub sub-byte : (x : ℕ) → x < 256 → look sbox x < 256
+sub-byte = look-byte sbox length-sbox sbox-bytes
 
 pub invSub-byte : (x : ℕ) → x < 256 → look invSbox x < 256
-unfolding invSbox
-invSub-byte = look-byte invSbox tt
+invSub-byte = look-byte invSbox length-invSbox invSbox-bytes
 
 -- ---- the round constants are the powers of x
 

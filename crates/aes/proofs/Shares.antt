@@ -2,7 +2,7 @@
 -- 5.3.3). Assumes nothing.
 use mathlib.Core.Path.{_≡_, refl, ap, _∙_}
 use mathlib.Core.Bool.{Bool, _&&_}
-use mathlib.Core.List.{List, [], _∷_}
+use mathlib.Core.List.{List, [], _∷_, map}
 use Prim.Native.Nat.{ℕ, _≤_, _<_}
 use native.Mathlib.Omega.{arith}
 use lib.Dec.{T, eqb, eqb→eq}
@@ -11,14 +11,14 @@ use Rattle.answers.proofs.Laws.{both}
 use Rattle.octets.specs.Octets.{Bytes, le, leBytes}
 use Rattle.octets.proofs.Below.{nil-bytes, cons-below}
 use Rattle.octets.proofs.Numbers.{leBytes-le}
-use Rattle.aes.specs.Field.{xor, mul}
-use Rattle.aes.specs.Cipher.{row, columns, invMixColumns, addRoundKey}
-use Rattle.aes.specs.Products.{entry, laid, share, shares, moved}
+use Rattle.aes.specs.Field.{xor, double, mul}
+use Rattle.aes.specs.Cipher.{tabulate, row, columns, addRoundKey}
+use Rattle.aes.specs.Products.{entry, laid, share, Laid, Shares, moved}
 use Rattle.aes.proofs.Sums.{assoc, comm, mul-byte}
 use Rattle.aes.proofs.Entries.{every, at}
-use Rattle.aes.proofs.Columns.{columns-bytes}
+use Rattle.aes.proofs.Columns.{by-doubling, columns-bytes}
 use Rattle.aes.proofs.States.{addRoundKey-bytes}
-use Rattle.aes.proofs.Steps.{getD-tabulate, tabulate-same, Filled, filled-all}
+use Rattle.aes.proofs.Steps.{length-tabulate, getD-tabulate, Filled, filled-all}
 use Rattle.aes.proofs.Words.{sum-le}
 
 -- ---- tables
@@ -34,22 +34,29 @@ rule f t h x l =
     let each = both (eqb (length t) 256) (every (λ k y. eqb y (mul f k)) 0 t) h .1 in
     eqb→eq (getD t x 0) (mul f x) (at (λ k y. eqb y (mul f k)) t each x (omega (arith, size)))
 
+-- words made place by place, each the share of the substituted byte
+pub laid-by : (p q r t : ℕ) (sub f : ℕ → ℕ) → ((x : ℕ) → x < 256 → sub x < 256) → ((x : ℕ) → x < 256 → f x ≡ share p q r t (sub x))
+    → Laid p q r t sub (tabulate 256 f)
+laid-by p q r t sub f b h =
+    record { long = length-tabulate 256 f; byte = b; at = λ x l. getD-tabulate 256 f x l ∙ h x l }
+
 module _ (p q r t : List ℕ) where
   -- all words are laid
   pub laid-all : (i : ℕ) (words : List ℕ) → 256 ≤ i → Filled 256 (entry p q r t) i words → words ≡ laid p q r t
   unfolding laid
   laid-all = filled-all 256 (entry p q r t)
 
-  -- four tables that pass their tests lay the shares
-  pub shares-laid : T (multiplies 14 p) → T (multiplies 9 q) → T (multiplies 13 r) → T (multiplies 11 t) → laid p q r t ≡ shares
-  unfolding entry laid shares share
+  -- four tables that pass their tests lay the shares of InvMixColumns
+  pub shares-laid : T (multiplies 14 p) → T (multiplies 9 q) → T (multiplies 13 r) → T (multiplies 11 t) → Shares (laid p q r t)
+  unfolding entry laid share
   shares-laid hp hq hr ht =
-      tabulate-same 256 (entry p q r t) share (λ x l. rw (rule 14 p hp x l, rule 9 q hq x l, rule 13 r hr x l, rule 11 t ht x l))
+      laid-by 14 11 13 9 (λ x. x) (entry p q r t) (λ x l. l)
+      (λ x l. rw (rule 14 p hp x l, rule 9 q hq x l, rule 13 r hr x l, rule 11 t ht x l))
 
--- the share of a byte x is at its place w
-pub shared : (t : List ℕ) {x w : ℕ} → t ≡ shares → (w ≡ x) × (w < 256) → getD t w 0 ≡ share x
-unfolding shares
-shared t {x} {w} e h = ap (λ (s : List ℕ). getD s w 0) e ∙ getD-tabulate 256 share w (h .1) ∙ ap share (h .0)
+-- a byte's share of a column of MixColumns, from one doubling
+pub mix-share : (x : ℕ) → le (double x ∷ x ∷ x ∷ xor (double x) x ∷ []) ≡ share 2 3 1 1 x
+unfolding share
+mix-share x = let e = by-doubling x in λ i. le (e .0 i ∷ e .1 i ∷ e .1 i ∷ e .2 i ∷ [])
 
 -- ---- a column of any matrix as a sum of words
 
@@ -103,21 +110,28 @@ module _ (p q r t a b c d : ℕ) (ha : a < 256) (hb : b < 256) (hc : c < 256) (h
 
   -- what the byte x adds in row k, from what it adds in row 0
   abbrev shifted : ℕ → ℕ → ℕ
-  shifted k x = le (moved k (leBytes 4 (le (times p t r q x))))
+  shifted k x = le (moved k (leBytes 4 (share p q r t x)))
 
-  unmoved : (x : ℕ) → x < 256 → leBytes 4 (le (times p t r q x)) ≡ times p t r q x
+  unmoved : (x : ℕ) → x < 256 → leBytes 4 (share p q r t x) ≡ times p t r q x
+  unfolding share
   unmoved x h = leBytes-le (times p t r q x) (times-bytes p t r q x h)
 
-  -- the four bytes' sum has the column's bytes
-  column : leBytes 4 (xor (xor (xor (le first) (shifted 1 b)) (shifted 2 c)) (shifted 3 d)) ≡ mixed
-  unfolding moved columns
-  column =
-      rw (unmoved b hb, unmoved c hc, unmoved d hd, words)
-      (leBytes-le mixed (columns-bytes p q r t (a ∷ b ∷ c ∷ d ∷ []) (cons-below ha (cons-below hb (cons-below hc (cons-below hd nil-bytes))))))
+  -- the four bytes' sum is the column's word
+  column : xor (xor (xor (share p q r t a) (shifted 1 b)) (shifted 2 c)) (shifted 3 d) ≡ le mixed
+  unfolding share moved
+  column = rw (unmoved b hb, unmoved c hc, unmoved d hd) words
 
--- a column of InvMixColumns from the shares of its bytes
-pub inv-column : (a b c d : ℕ) → a < 256 → b < 256 → c < 256 → d < 256
-    → leBytes 4 (xor (xor (xor (share a) (le (moved 1 (leBytes 4 (share b))))) (le (moved 2 (leBytes 4 (share c)))))
-    (le (moved 3 (leBytes 4 (share d))))) ≡ invMixColumns (a ∷ b ∷ c ∷ d ∷ [])
-unfolding share invMixColumns
-inv-column = column 14 11 13 9
+-- so it is for any laid words
+pub looked-up : (p q r t : ℕ) (sub : ℕ → ℕ) (ws : List ℕ) (a b c d : ℕ) → a < 256 → b < 256 → c < 256 → d < 256 → Laid p q r t sub ws
+    → xor (xor (xor (getD ws a 0) (le (moved 1 (leBytes 4 (getD ws b 0))))) (le (moved 2 (leBytes 4 (getD ws c 0)))))
+    (le (moved 3 (leBytes 4 (getD ws d 0)))) ≡ le (columns (row p q r t) (map sub (a ∷ b ∷ c ∷ d ∷ [])))
+looked-up p q r t sub ws a b c d ha hb hc hd h =
+    rw (h .at a ha, h .at b hb, h .at c hc, h .at d hd)
+    (column p q r t (sub a) (sub b) (sub c) (sub d) (h .byte a ha) (h .byte b hb) (h .byte c hc) (h .byte d hd))
+
+-- and the column is bytes
+pub looked-up-bytes : (p q r t : ℕ) (sub : ℕ → ℕ) (ws : List ℕ) (a b c d : ℕ) → a < 256 → b < 256 → c < 256 → d < 256 → Laid p q r t sub ws
+    → Bytes (columns (row p q r t) (map sub (a ∷ b ∷ c ∷ d ∷ [])))
+looked-up-bytes p q r t sub ws a b c d ha hb hc hd h =
+    columns-bytes p q r t (map sub (a ∷ b ∷ c ∷ d ∷ []))
+    (cons-below (h .byte a ha) (cons-below (h .byte b hb) (cons-below (h .byte c hc) (cons-below (h .byte d hd) nil-bytes))))

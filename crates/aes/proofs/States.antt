@@ -3,11 +3,9 @@
 use mathlib.Core.Path.{_≡_, refl, ap, subst}
 use mathlib.Core.List.{List, [], _∷_, map}
 use Prim.Native.Nat.{ℕ, zero, suc, _+_, _*_, _%_, _<_}
-use native.Mathlib.Nat.{le-of-suc-le-suc, not-suc-le-zero}
 use lib.ListN.{length, getD, drop, length-map}
 use Rattle.octets.specs.Octets.{Bytes}
 use Rattle.octets.proofs.Below.{nil-bytes, cons-below, tail-below, take-below, drop-below}
-use Rattle.aes.specs.Field.{xor}
 use Rattle.aes.specs.Tables.{look, sbox, invSbox}
 use Rattle.aes.specs.Cipher.{subBytes, invSubBytes, tabulate, shift, shiftRows, invShiftRows, addRoundKey, keyOf}
 use Rattle.aes.proofs.Sums.{back, xor-byte}
@@ -108,14 +106,6 @@ unfolding addRoundKey
 addRoundKey-bytes [] k b c = b
 addRoundKey-bytes (x ∷ s) [] b c = b
 addRoundKey-bytes (x ∷ s) (y ∷ k) b c = cons-below (xor-byte (b .at 0) (c .at 0)) (addRoundKey-bytes s k (tail-below b) (tail-below c))
-
--- a byte of the sum, where the key reaches
-pub getD-addRoundKey : (s k : List ℕ) (i : ℕ) → i < length s → i < length k → getD (addRoundKey s k) i 0 ≡ xor (getD s i 0) (getD k i 0)
-unfolding addRoundKey
-getD-addRoundKey [] k i h l = absurd (not-suc-le-zero h)
-getD-addRoundKey (x ∷ s) [] i h l = absurd (not-suc-le-zero l)
-getD-addRoundKey (x ∷ s) (y ∷ k) zero h l = refl
-getD-addRoundKey (x ∷ s) (y ∷ k) (suc i) h l = getD-addRoundKey s k i (le-of-suc-le-suc h) (le-of-suc-le-suc l)
 
 pub keyOf-bytes : (w : List ℕ) → Bytes w → (r : ℕ) → Bytes (keyOf w r)
 unfolding keyOf

@@ -1,14 +1,13 @@
 -- What a turn of a loop or a part of the work adds to what is done: the laws that the proofs of the code cite. Assumes nothing.
 use mathlib.Core.Path.{_≡_, refl, sym, ap, _∙_}
 use mathlib.Core.List.{List, [], _∷_, _++_}
-use Prim.Native.Nat.{ℕ, zero, suc, _+_, _-_, _*_, _≤_, _<_}
+use Prim.Native.Nat.{ℕ, zero, suc, _+_, _-_, _≤_, _<_}
 use native.Mathlib.Numerals.{add-one}
 use native.Mathlib.Omega.{arith}
-use lib.ListN.{length, getD, take, drop, set, length-drop, length-set}
-use lib.Seq.{take-suc, take-all, take-suc-set, getD-take, getD-drop, length-take-le, ext-getD}
-use Rattle.aes.specs.Field.{xor}
-use Rattle.aes.specs.Cipher.{tabulate, addRoundKey, keyOf, round, invRound, rounds, invRounds}
-use Rattle.aes.proofs.States.{opened, length-addRoundKey, getD-addRoundKey}
+use lib.ListN.{length, getD, take, set, length-set}
+use lib.Seq.{take-suc, take-all, take-suc-set}
+use Rattle.aes.specs.Cipher.{tabulate, round, invRound, rounds, invRounds}
+use Rattle.aes.proofs.States.{opened}
 
 -- ---- a state in four columns
 
@@ -24,7 +23,7 @@ by-columns f s r a b c d h e ea eb ec ed whole = e ∙ rw (ea, eb, ec, ed) (whol
 
 -- ---- a list made place by place
 
-length-tabulate : (n : ℕ) (f : ℕ → ℕ) → length (tabulate n f) ≡ n
+pub length-tabulate : (n : ℕ) (f : ℕ → ℕ) → length (tabulate n f) ≡ n
 length-tabulate zero f = refl
 length-tabulate (suc n) f = ap suc (length-tabulate n (λ i. f (suc i)))
 
@@ -32,11 +31,6 @@ pub getD-tabulate : (n : ℕ) (f : ℕ → ℕ) (i : ℕ) → i < n → getD (ta
 getD-tabulate zero f i h = absurd (omega arith)
 getD-tabulate (suc n) f zero h = refl
 getD-tabulate (suc n) f (suc i) h = getD-tabulate n (λ j. f (suc j)) i (omega arith)
-
-pub tabulate-same : (n : ℕ) (f g : ℕ → ℕ) → ((i : ℕ) → i < n → f i ≡ g i) → tabulate n f ≡ tabulate n g
-tabulate-same zero f g h = refl
-tabulate-same (suc n) f g h =
-    λ i. h 0 (omega arith) i ∷ tabulate-same n (λ j. f (suc j)) (λ j. g (suc j)) (λ j l. h (suc j) (omega arith)) i
 
 -- of n places the first i hold what f gives there
 pub record Filled (n : ℕ) (f : ℕ → ℕ) (i : ℕ) (t : List ℕ) : Type 0 where
@@ -66,19 +60,11 @@ module _ (n : ℕ) (f : ℕ → ℕ) where
       let whole : length (tabulate n f) ≤ i = rw length-tabulate h in
       sym (take-all i t (omega arith)) ∙ done .front ∙ take-all i (tabulate n f) whole
 
--- AddRoundKey byte by byte
-pub added : (s w : List ℕ) (n : ℕ) → length s ≡ 16 → 16 * n + 16 ≤ length w
-    → tabulate 16 (λ i. xor (getD s i 0) (getD w (16 * n + i) 0)) ≡ addRoundKey s (keyOf w n)
-unfolding keyOf
-added s w n hs hw =
-    let k = take 16 (drop (16 * n) w) in
-    let long : length k ≡ 16 = length-take-le 16 (drop (16 * n) w) (simp length-drop (omega arith)) in
-    ext-getD 0 (tabulate 16 (λ i. xor (getD s i 0) (getD w (16 * n + i) 0))) (addRoundKey s k) (sym (length-addRoundKey s k ∙ hs))
-    (λ i h. getD-tabulate 16 (λ j. xor (getD s j 0) (getD w (16 * n + j) 0)) i h
-    ∙ ap (xor (getD s i 0)) (sym (getD-take 16 (drop (16 * n) w) i 0 h ∙ getD-drop (16 * n) w i 0))
-    ∙ sym (getD-addRoundKey s k i (omega arith) (omega arith)))
-
 -- ---- a round more, and a round less to go
+
+pub rounds-none : (key : ℕ → List ℕ) (s : List ℕ) → rounds key 0 s ≡ s
+unfolding rounds
+rounds-none key s = refl
 
 pub rounds-more : (key : ℕ → List ℕ) (n : ℕ) (s : List ℕ) → 0 < n → rounds key n s ≡ round key n (rounds key (n - 1) s)
 unfolding rounds

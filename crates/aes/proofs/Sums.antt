@@ -66,7 +66,7 @@ xor-byte {a} {b} ha hb = xor-lt 8 a b ha hb
 
 -- ---- doubling
 
-swap : (a b c d : ℕ) → xor (xor a b) (xor c d) ≡ xor (xor a c) (xor b d)
+pub swap : (a b c d : ℕ) → xor (xor a b) (xor c d) ≡ xor (xor a c) (xor b d)
 swap a b c d =
     assoc a b (xor c d) ∙ ap (xor a) (sym (assoc b c d) ∙ ap (λ (y : ℕ). xor y d) (comm b c) ∙ assoc c b d) ∙ sym (assoc a c (xor b d))
 
@@ -110,3 +110,19 @@ mulBy-byte (suc n) a b h = xor-byte (bit-byte (b % 2) a h) (mulBy-byte n (double
 pub mul-byte : (b a : ℕ) → a < 256 → mul b a < 256
 unfolding mul
 mul-byte b a h = mulBy-byte 8 a b h
+
+-- a product distributes over the sum
+bit-sum : (d a b : ℕ) → bit d (xor a b) ≡ xor (bit d a) (bit d b)
+unfolding bit
+bit-sum zero a b = sym (zero-l 0)
+bit-sum (suc d) a b = refl
+
+mulBy-sum : (n a b c : ℕ) → mulBy n (xor a b) c ≡ xor (mulBy n a c) (mulBy n b c)
+unfolding mulBy
+mulBy-sum zero a b c = sym (zero-l 0)
+mulBy-sum (suc n) a b c =
+    ap₂ xor (bit-sum (c % 2) a b) (ap (λ (x : ℕ). mulBy n x (c / 2)) (double-sum a b) ∙ mulBy-sum n (double a) (double b) (c / 2)) ∙ swap _ _ _ _
+
+pub mul-sum : (c a b : ℕ) → mul c (xor a b) ≡ xor (mul c a) (mul c b)
+unfolding mul
+mul-sum c a b = mulBy-sum 8 a b c

@@ -1,7 +1,8 @@
--- Products in the field by the factors of InvMixColumns, kept as words (FIPS 197 4.2 and 5.3.3). Assumes nothing.
+-- Products in the field by the factors of a matrix, kept as words (FIPS 197 4.2, 4.3, 5.1.3 and 5.3.3). Assumes nothing.
+use mathlib.Core.Path.{_≡_}
 use mathlib.Core.List.{List, [], _∷_, _++_}
-use Prim.Native.Nat.{ℕ, _-_}
-use lib.ListN.{getD, take, drop}
+use Prim.Native.Nat.{ℕ, _-_, _<_}
+use lib.ListN.{length, getD, take, drop}
 use Rattle.octets.specs.Octets.{le}
 use Rattle.aes.specs.Field.{mul}
 use Rattle.aes.specs.Cipher.{tabulate}
@@ -14,13 +15,19 @@ entry p q r t x = le (getD p x 0 ∷ getD q x 0 ∷ getD r x 0 ∷ getD t x 0 �
 unfoldable pub laid : List ℕ → List ℕ → List ℕ → List ℕ → List ℕ
 laid p q r t = tabulate 256 (entry p q r t)
 
--- what a byte in row 0 adds to its column in InvMixColumns: its products by the matrix's first column (5.3.3), as a word
-unfoldable pub share : ℕ → ℕ
-share x = le (mul 14 x ∷ mul 9 x ∷ mul 13 x ∷ mul 11 x ∷ [])
+-- what the byte x in row 0 adds to its column: its products by the first column of the matrix whose first row is p q r t, as a word
+unfoldable pub share : ℕ → ℕ → ℕ → ℕ → ℕ → ℕ
+share p q r t x = le (mul p x ∷ mul t x ∷ mul r x ∷ mul q x ∷ [])
 
--- every byte's share
-unfoldable pub shares : List ℕ
-shares = tabulate 256 share
+-- 256 words in which each byte finds its share once it is substituted
+pub record Laid (p q r t : ℕ) (sub : ℕ → ℕ) (words : List ℕ) : Type 0 where
+  pub long : length words ≡ 256
+  pub byte : (x : ℕ) → x < 256 → sub x < 256
+  pub at : (x : ℕ) → x < 256 → getD words x 0 ≡ share p q r t (sub x)
+
+-- those of InvMixColumns (5.3.3), with nothing substituted
+abbrev pub Shares : List ℕ → Type 0
+Shares words = Laid 14 11 13 9 (λ x. x) words
 
 -- a word's bytes moved up by k places, in a circle: what a byte in row k adds, from what it adds in row 0
 unfoldable pub moved : ℕ → List ℕ → List ℕ

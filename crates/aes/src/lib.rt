@@ -11,13 +11,14 @@
 //         let opened = aes::decrypt(&key, sealed.block);
 //     }
 //
-// A stream expands its key once, copies its table into a local once, to decrypt also lays the shares of `products` once, and lends
-// them to `rounds::cipher` or `rounds::inv_cipher`.
+// A stream expands its key once; `columns` has the ciphers for it. `rounds::cipher` and `rounds::inv_cipher` do a lone block's work: the
+// one doubles, the other lays the shares of `products`, and neither mixes a key.
 ghost use mathlib.Core.Path.{_≡_};
 ghost use Rattle.aes.specs.Aes as Aes;
 
 mod expansion;
-mod field;
+pub mod field;
+pub mod packed;
 pub mod products;
 pub mod rounds;
 pub mod tables;

@@ -1,25 +1,23 @@
 // Multiplication by the factors of InvMixColumns (FIPS 197 4.2, 5.3.3), looked up: a table of 256 products for each of 9, 11, 13 and
-// 14, and the table of words laid from the four, in which a byte finds its whole share of a column at once.
+// 14, and the table of words laid from the four, in which a byte finds its whole share of a column at once. `column` sums the words of
+// any matrix.
 //
-// Lay the words once a stream and lend them: laying copies the four tables.
+// Lay the words once and lend them: laying copies the four tables.
 ghost use mathlib.Core.Path.{_≡_};
-ghost use Prim.Native.Nat.{_<_};
-ghost use lib.ListN.{length};
-ghost use Rattle.octets.specs.Octets.{le, leBytes};
+ghost use mathlib.Core.List.{[], _∷_, map};
+ghost use Prim.Native.Nat.{ℕ};
+ghost use lib.ListN.{length, getD};
+ghost use Rattle.octets.specs.Octets.{le};
+ghost use Rattle.aes.specs.Cipher.{row, columns};
 ghost use Rattle.aes.specs.Products as Products;
+use super::packed::moved;
+use super::packed::word;
 use super::tables::wide;
 
 mod by_11;
 mod by_13;
 mod by_14;
 mod by_9;
-
-// The four bytes of a word, the first lowest.
-fn word(bytes: [u8; 4]) -> u32
-    ensures { λ r. ⌜ r ≡ le bytes ⌝ }
-{
-    octets::le32(&bytes, 0)
-}
 
 // The words of four tables' entries, those of the first lowest.
 fn laid(first: &[u8; 256], second: &[u8; 256], third: &[u8; 256], fourth: &[u8; 256]) -> [u32; 256]
@@ -30,7 +28,7 @@ fn laid(first: &[u8; 256], second: &[u8; 256], third: &[u8; 256], fourth: &[u8; 
     let mut words = [0u32; 256];
     let mut i = 0;
     while i < 256 {
-        words[i] = word([first[i], second[i], third[i], fourth[i]]);
+        words[i] = word(first[i], second[i], third[i], fourth[i]);
         i += 1;
     }
     words
@@ -38,7 +36,7 @@ fn laid(first: &[u8; 256], second: &[u8; 256], third: &[u8; 256], fourth: &[u8; 
 
 // Each byte's share of a column of InvMixColumns.
 pub fn shares() -> [u32; 256]
-    ensures { λ r. ⌜ r ≡ Products.shares ⌝ }
+    ensures { λ r. ⌜ Products.Shares r ⌝ }
 {
     let nine = by_9::BY_9;
     let eleven = by_11::BY_11;
@@ -47,18 +45,21 @@ pub fn shares() -> [u32; 256]
     laid(&fourteen, &nine, &thirteen, &eleven)
 }
 
-// The share of x.
-pub(crate) fn share(shares: &[u32; 256], x: u8) -> u32
-    requires { ⌜ now shares ≡ Products.shares ⌝ }
-    ensures { λ r. ⌜ r ≡ Products.share x ⌝ }
+// The word at x.
+pub fn share(words: &[u32; 256], x: u8) -> u32
+    requires { ⌜ length (now words) ≡ 256 ⌝ }
+    ensures { λ r. ⌜ r ≡ getD (now (words .entry)) x 0 ⌝ }
 {
-    shares[wide(x)]
+    words[wide(x)]
 }
 
-// A word whose bytes move up by k places, in a circle.
-pub(crate) fn moved(k: u32, x: u32) -> u32
-    requires { ⌜ (0 < k) × (k < 4) ⌝ }
-    ensures { λ r. ⌜ r ≡ le (Products.moved k (leBytes 4 x)) ⌝ }
+// A column of the matrix whose shares the words are: the sum of its four bytes' shares, each moved to the byte's row.
+pub fn column(words: &[u32; 256], a: u8, b: u8, c: u8, d: u8) -> u32
+    requires { ⌜ length (now words) ≡ 256 ⌝ }
+    ensures { λ r. ⌜ ((p q s t : ℕ) (sub : ℕ → ℕ) → Products.Laid p q s t sub (now (words .entry)) → r ≡ le (columns (row p q s t) (map sub (a ∷ b ∷ c ∷ d ∷ [])))) ⌝ }
 {
-    (x << (8 * k)) | (x >> (32 - 8 * k))
+    share(words, a)
+        ^ moved(1, share(words, b))
+        ^ moved(2, share(words, c))
+        ^ moved(3, share(words, d))
 }

@@ -7,12 +7,12 @@ ghost use Rattle.aes.specs.Tables as Tables;
 ghost use Rattle.aes.specs.Cipher as Cipher;
 ghost use Rattle.aes.specs.Products as Products;
 use super::field::double;
-use super::products::moved;
-use super::products::share;
+use super::packed::eight;
+use super::products::column;
 use super::tables::look;
 
 // Four columns, one after the other.
-fn joined(a: [u8; 4], b: [u8; 4], c: [u8; 4], d: [u8; 4]) -> [u8; 16]
+pub fn joined(a: [u8; 4], b: [u8; 4], c: [u8; 4], d: [u8; 4]) -> [u8; 16]
     ensures { λ r. ⌜ r ≡ a ++ b ++ c ++ d ⌝ }
 {
     [
@@ -36,7 +36,7 @@ fn joined(a: [u8; 4], b: [u8; 4], c: [u8; 4], d: [u8; 4]) -> [u8; 16]
 }
 
 // SubBytes or InvSubBytes, by the table.
-fn sub_bytes(table: &[u8; 256], s: [u8; 16]) -> [u8; 16]
+pub fn sub_bytes(table: &[u8; 256], s: [u8; 16]) -> [u8; 16]
     requires { ⌜ length (now table) ≡ 256 ⌝ }
     ensures { λ r. ⌜ r ≡ map (Tables.look (now (table .entry))) s ⌝ }
 {
@@ -50,7 +50,7 @@ fn sub_bytes(table: &[u8; 256], s: [u8; 16]) -> [u8; 16]
 }
 
 // ShiftRows: row r moves left by r columns.
-fn shift_rows(s: [u8; 16]) -> [u8; 16]
+pub fn shift_rows(s: [u8; 16]) -> [u8; 16]
     ensures { λ r. ⌜ r ≡ Cipher.shiftRows s ⌝ }
 {
     [
@@ -74,7 +74,7 @@ fn shift_rows(s: [u8; 16]) -> [u8; 16]
 }
 
 // InvShiftRows: row r moves right by r columns.
-fn inv_shift_rows(s: [u8; 16]) -> [u8; 16]
+pub fn inv_shift_rows(s: [u8; 16]) -> [u8; 16]
     ensures { λ r. ⌜ r ≡ Cipher.invShiftRows s ⌝ }
 {
     [
@@ -127,23 +127,19 @@ fn mix_columns(s: [u8; 16]) -> [u8; 16]
     )
 }
 
-// A column of InvMixColumns: the sum of its four bytes' shares, each moved to the byte's row.
+// A column of InvMixColumns, from its bytes' shares.
 fn inv_mix_column(shares: &[u32; 256], a: u8, b: u8, c: u8, d: u8) -> [u8; 4]
-    requires { ⌜ now shares ≡ Products.shares ⌝ }
+    requires { ⌜ Products.Shares (now shares) ⌝ }
     ensures { λ r. ⌜ r ≡ Cipher.invMixColumns (a ∷ b ∷ c ∷ d ∷ []) ⌝ }
 {
-    let sum = share(shares, a)
-        ^ moved(1, share(shares, b))
-        ^ moved(2, share(shares, c))
-        ^ moved(3, share(shares, d));
-    let mut column = [0u8; 4];
-    octets::put_le32(&mut column, 0, sum);
-    column
+    let mut bytes = [0u8; 4];
+    octets::put_le32(&mut bytes, 0, column(shares, a, b, c, d));
+    bytes
 }
 
 // InvMixColumns.
-fn inv_mix_columns(shares: &[u32; 256], s: [u8; 16]) -> [u8; 16]
-    requires { ⌜ now shares ≡ Products.shares ⌝ }
+pub fn inv_mix_columns(shares: &[u32; 256], s: [u8; 16]) -> [u8; 16]
+    requires { ⌜ Products.Shares (now shares) ⌝ }
     ensures { λ r. ⌜ r ≡ Cipher.invMixColumns s ⌝ }
 {
     joined(
@@ -154,17 +150,14 @@ fn inv_mix_columns(shares: &[u32; 256], s: [u8; 16]) -> [u8; 16]
     )
 }
 
-// AddRoundKey with round key n.
-fn add_round_key(w: &[u8; 240], n: usize, s: [u8; 16]) -> [u8; 16]
+// AddRoundKey with round key n, eight bytes at once.
+pub fn add_round_key(w: &[u8; 240], n: usize, s: [u8; 16]) -> [u8; 16]
     requires { ⌜ (n ≤ 14) × (length (now w) ≡ 240) ⌝ }
     ensures { λ r. ⌜ r ≡ Cipher.addRoundKey s (Cipher.keyOf (now (w .entry)) n) ⌝ }
 {
     let mut t = [0u8; 16];
-    let mut i = 0;
-    while i < 16 {
-        t[i] = s[i] ^ w[16 * n + i];
-        i += 1;
-    }
+    octets::put_le64(&mut t, 0, eight(&s, 0) ^ eight(w, 16 * n));
+    octets::put_le64(&mut t, 8, eight(&s, 8) ^ eight(w, 16 * n + 8));
     t
 }
 
@@ -184,7 +177,7 @@ fn inv_round(
     shares: &[u32; 256],
     s: [u8; 16],
 ) -> [u8; 16]
-    requires { ⌜ (n ≤ 14) × (length (now w) ≡ 240) × (now table ≡ Tables.invSbox) × (now shares ≡ Products.shares) ⌝ }
+    requires { ⌜ (n ≤ 14) × (length (now w) ≡ 240) × (now table ≡ Tables.invSbox) × (Products.Shares (now shares)) ⌝ }
     ensures { λ r. ⌜ r ≡ Cipher.invRound (Cipher.keyOf (now (w .entry))) n s ⌝ }
 {
     inv_mix_columns(
@@ -217,7 +210,7 @@ pub fn inv_cipher(
     block: [u8; 16],
 ) -> [u8; 16]
     requires { ⌜ (0 < rounds) × (rounds ≤ 14) × (length (now w) ≡ 240) ⌝ }
-    requires { ⌜ (now table ≡ Tables.invSbox) × (now shares ≡ Products.shares) ⌝ }
+    requires { ⌜ (now table ≡ Tables.invSbox) × (Products.Shares (now shares)) ⌝ }
     ensures { λ r. ⌜ r ≡ Cipher.invCipher (Cipher.keyOf (now (w .entry))) rounds block ⌝ }
 {
     let mut s = add_round_key(w, rounds, block);

@@ -3,7 +3,8 @@ ghost use mathlib.Core.Path.{_≡_};
 ghost use Prim.Native.Nat.{_+_, _<_, _≤_};
 ghost use lib.ListN.{length};
 ghost use Rattle.aes.specs.Tables.{sbox, invSbox};
-ghost use Rattle.aes.specs.Products as Products;
+ghost use Rattle.aes.specs.Cipher.{invMixColumns};
+ghost use Rattle.columns.specs.Columns.{Forward, Inverse};
 
 // The block at `at`.
 fn block(s: &[u8], at: usize) -> [u8; 16]
@@ -21,25 +22,33 @@ fn put(s: &mut [u8], at: usize, b: [u8; 16])
     octets::copy(&b, 0, 16, s, at);
 }
 
-pub fn encrypt(w: &[u8; 240], rounds: usize, table: &[u8; 256], s: &mut [u8])
-    requires { ⌜ (0 < rounds) × (rounds ≤ 14) × (length (now w) ≡ 240) × (now table ≡ sbox) ⌝ }
+pub fn encrypt(w: &[u8; 240], rounds: usize, table: &[u8; 256], words: &[u32; 256], s: &mut [u8])
+    requires { ⌜ (0 < rounds) × (rounds ≤ 14) × (length (now w) ≡ 240) × (now table ≡ sbox) × Forward (now words) ⌝ }
 {
     let n = s.len() / 16;
     let mut i = 0;
     while i < n {
-        let b = aes::rounds::cipher(w, rounds, table, block(s, 16 * i));
+        let b = columns::cipher(w, rounds, table, words, block(s, 16 * i));
         put(s, 16 * i, b);
         i += 1;
     }
 }
 
-pub fn decrypt(w: &[u8; 240], rounds: usize, table: &[u8; 256], shares: &[u32; 256], s: &mut [u8])
-    requires { ⌜ (0 < rounds) × (rounds ≤ 14) × (length (now w) ≡ 240) × (now table ≡ invSbox) × (now shares ≡ Products.shares) ⌝ }
+pub fn decrypt(
+    w: &[u8; 240],
+    mixed: &[u8; 240],
+    rounds: usize,
+    table: &[u8; 256],
+    words: &[u32; 256],
+    s: &mut [u8],
+)
+    requires { ⌜ (0 < rounds) × (rounds ≤ 14) × (length (now w) ≡ 240) × (length (now mixed) ≡ 240) ⌝ }
+    requires { ⌜ (now mixed ≡ invMixColumns (now w)) × (now table ≡ invSbox) × Inverse (now words) ⌝ }
 {
     let n = s.len() / 16;
     let mut i = 0;
     while i < n {
-        let b = aes::rounds::inv_cipher(w, rounds, table, shares, block(s, 16 * i));
+        let b = columns::inv_cipher(w, mixed, rounds, table, words, block(s, 16 * i));
         put(s, 16 * i, b);
         i += 1;
     }

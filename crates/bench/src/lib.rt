@@ -9,7 +9,7 @@ pub extern "C" fn bench_sha1(message: &[u8]) -> u64 {
     octets::le64(&bytes, 0)
 }
 
-// Every whole block of a buffer encrypted in place, table and expanded key lent; the answer.
+// Every whole block of a buffer encrypted in place, tables and expanded key lent; the answer.
 #[no_mangle]
 pub extern "C" fn bench_encrypt(key: &[u8], buf: &mut [u8]) -> u64 {
     let e = aes::expand(key);
@@ -22,7 +22,8 @@ pub extern "C" fn bench_encrypt(key: &[u8], buf: &mut [u8]) -> u64 {
     }
     let w = e.bytes;
     let table = aes::tables::SBOX;
-    blocks::encrypt(&w, rounds, &table, buf);
+    let words = columns::forward(&table);
+    blocks::encrypt(&w, rounds, &table, &words, buf);
     0
 }
 
@@ -40,7 +41,9 @@ pub extern "C" fn bench_decrypt(key: &[u8], buf: &mut [u8]) -> u64 {
     let w = e.bytes;
     let table = aes::tables::INV_SBOX;
     let shares = aes::products::shares();
-    blocks::decrypt(&w, rounds, &table, &shares, buf);
+    let words = columns::inverse(&table, &shares);
+    let mixed = columns::mixed(&w, &shares);
+    blocks::decrypt(&w, &mixed, rounds, &table, &words, buf);
     0
 }
 

@@ -1,19 +1,18 @@
 // A stream of 16-byte blocks under AES in ECB mode (000 section 7), out of one lent slice into another.
 //
-// The key comes expanded. It and the tables are copied once a stream and lent to each block. A contract says which bytes of the
-// output are written and with what; the rest of it is as it was.
+// The key comes expanded. It is copied once a stream, the tables are laid once, and both are lent to each block. A contract says which
+// bytes of the output are written and with what; the rest of it is as it was.
 ghost use mathlib.Core.Path.{_≡_};
 ghost use mathlib.Core.List.{_++_};
 ghost use Prim.Native.Nat.{_+_, _*_, _/_, _%_, _<_, _≤_, min};
 ghost use lib.ListN.{length, take, drop};
 ghost use lib.Seq.{paste};
 ghost use Rattle.aes.specs.Tables.{sbox, invSbox};
-ghost use Rattle.aes.specs.Products as Products;
-ghost use Rattle.aes.specs.Cipher.{keyOf, cipher, invCipher};
+ghost use Rattle.aes.specs.Cipher.{invMixColumns, keyOf, cipher, invCipher};
+ghost use Rattle.columns.specs.Columns.{Forward, Inverse};
 ghost use Rattle.blocks.specs.Blocks.{ecb, encrypting, decrypting};
 use aes::Expanded;
 use aes::products;
-use aes::rounds;
 use aes::tables;
 
 // The sixteen bytes of s at `at`.
@@ -54,15 +53,16 @@ fn part(left: usize) -> usize
 // `decrypt`, with the key and the tables lent.
 fn decrypt_with(
     w: &[u8; 240],
+    mixed: &[u8; 240],
     rounds: usize,
     table: &[u8; 256],
-    shares: &[u32; 256],
+    words: &[u32; 256],
     src: &[u8],
     size: usize,
     out: &mut [u8],
 )
-    requires { ⌜ (0 < rounds) × (rounds ≤ 14) ⌝ }
-    requires { ⌜ (length (now w) ≡ 240) × (now table ≡ invSbox) × (now shares ≡ Products.shares) ⌝ }
+    requires { ⌜ (0 < rounds) × (rounds ≤ 14) × (length (now w) ≡ 240) × (length (now mixed) ≡ 240) ⌝ }
+    requires { ⌜ (now mixed ≡ invMixColumns (now w)) × (now table ≡ invSbox) × Inverse (now words) ⌝ }
     requires { ⌜ (size ≤ 16 * (length (now src) / 16)) × (size ≤ length (now out)) ⌝ }
     ensures { λ _. ⌜ now (out .exit) ≡ paste (now (out .entry)) 0 (ecb (invCipher (keyOf (now (w .entry))) rounds) (now (src .entry))) size ⌝ }
 {
@@ -70,7 +70,7 @@ fn decrypt_with(
     while i < size {
         let n = part(size - i);
         let sealed = block(src, i);
-        let plain = rounds::inv_cipher(w, rounds, table, shares, sealed);
+        let plain = columns::inv_cipher(w, mixed, rounds, table, words, sealed);
         octets::copy(&plain, 0, n, out, i);
         i += n;
     }
@@ -85,29 +85,32 @@ pub fn decrypt(key: Expanded, src: &[u8], size: usize, out: &mut [u8])
     let w = key.bytes;
     let table = tables::INV_SBOX;
     let shares = products::shares();
-    decrypt_with(&w, key.rounds, &table, &shares, src, size, out);
+    let words = columns::inverse(&table, &shares);
+    let mixed = columns::mixed(&w, &shares);
+    decrypt_with(&w, &mixed, key.rounds, &table, &words, src, size, out);
 }
 
-// `encrypt`, with the key, the table and the filling lent.
+// `encrypt`, with the key, the tables and the filling lent.
 fn encrypt_with(
     w: &[u8; 240],
     rounds: usize,
     table: &[u8; 256],
+    words: &[u32; 256],
     contents: &[u8],
     filling: &[u8; 16],
     size: usize,
     out: &mut [u8],
     at: usize,
 )
-    requires { ⌜ (0 < rounds) × (rounds ≤ 14) ⌝ }
-    requires { ⌜ (length (now w) ≡ 240) × (now table ≡ sbox) × (length (now filling) ≡ 16) ⌝ }
+    requires { ⌜ (0 < rounds) × (rounds ≤ 14) × (length (now w) ≡ 240) × (length (now filling) ≡ 16) ⌝ }
+    requires { ⌜ (now table ≡ sbox) × Forward (now words) ⌝ }
     requires { ⌜ (size % 16 ≡ 0) × (size ≤ length (now contents) + 16) × (at + size ≤ length (now out)) ⌝ }
     ensures { λ _. ⌜ now (out .exit) ≡ paste (now (out .entry)) at (ecb (cipher (keyOf (now (w .entry))) rounds) (take size (now (contents .entry) ++ now (filling .entry)))) size ⌝ }
 {
     let mut i = 0;
     while i < size {
         let plain = filled_block(contents, filling, i);
-        let sealed = rounds::cipher(w, rounds, table, plain);
+        let sealed = columns::cipher(w, rounds, table, words, plain);
         octets::copy(&sealed, 0, 16, out, at + i);
         i += 16;
     }
@@ -128,5 +131,16 @@ pub fn encrypt(
 {
     let w = key.bytes;
     let table = tables::SBOX;
-    encrypt_with(&w, key.rounds, &table, contents, &filling, size, out, at);
+    let words = columns::forward(&table);
+    encrypt_with(
+        &w,
+        key.rounds,
+        &table,
+        &words,
+        contents,
+        &filling,
+        size,
+        out,
+        at,
+    );
 }

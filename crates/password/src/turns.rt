@@ -1,9 +1,8 @@
 // The fifty thousand turns (000 4.2). A turn hashes 24 bytes, the counter and the five words before, which with the padding are one
 // block: its sixteen words are made from these, with no buffer of bytes in between.
 ghost use mathlib.Core.Path.{_≡_};
-ghost use mathlib.Core.List.{[], _∷_};
 ghost use Rattle.octets.specs.Octets.{be, leBytes};
-ghost use Rattle.sha1.specs.Sha1.{sha1, output, wordBytes, roundWords};
+ghost use Rattle.sha1.specs.Sha1.{output, roundWords};
 ghost use Rattle.password.specs.Key.{turn, turns, spins, blockHash};
 use sha1::State;
 
@@ -17,21 +16,12 @@ fn swapped(i: u32) -> u32
     16777216 * (i % 256) + 65536 * (second % 256) + 256 * (third % 256) + last
 }
 
-// The hash of six words: they, the one bit, zeros and the length of 192 bits are one block.
-fn six(k: &[u32; 4], a: u32, b: u32, c: u32, d: u32, e: u32, f: u32) -> State
-    requires { ⌜ now k ≡ roundWords ⌝ }
-    ensures { λ r. ⌜ output r ≡ sha1 (wordBytes (a ∷ b ∷ c ∷ d ∷ e ∷ f ∷ [])) ⌝ }
-{
-    let m = [a, b, c, d, e, f, 0x80000000, 0, 0, 0, 0, 0, 0, 0, 0, 192];
-    sha1::compress(sha1::start(), &m, k)
-}
-
 // Turn i.
 fn next(k: &[u32; 4], i: u32, s: State) -> State
     requires { ⌜ now k ≡ roundWords ⌝ }
     ensures { λ r. ⌜ output r ≡ turn i (output s) ⌝ }
 {
-    six(k, swapped(i), s.a, s.b, s.c, s.d, s.e)
+    sha1::six(k, swapped(i), s.a, s.b, s.c, s.d, s.e)
 }
 
 // All the turns.
@@ -53,5 +43,5 @@ pub fn block_hash(s: State) -> State
     ensures { λ r. ⌜ output r ≡ blockHash (output s) ⌝ }
 {
     let k = sha1::round_words();
-    six(&k, s.a, s.b, s.c, s.d, s.e, 0)
+    sha1::six(&k, s.a, s.b, s.c, s.d, s.e, 0)
 }

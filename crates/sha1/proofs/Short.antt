@@ -99,3 +99,12 @@ short-words ws b h =
     ∙ block-words 16 (shortBlock ws) (short-block-words ws b h) (omega arith)
     ∙ take-all 16 (shortBlock ws) (omega arith) in
     one-block (fips.wordBytes ws) (omega (arith, length-wordBytes ws)) ∙ ap (λ (m : List ℕ). fips.output (fips.compress fips.start m)) e
+
+-- six words, the one bit, zeros and the length
+pub six-words : (a b c d e f : ℕ) → a < 2 ^ 32 → b < 2 ^ 32 → c < 2 ^ 32 → d < 2 ^ 32 → e < 2 ^ 32 → f < 2 ^ 32
+    → fips.output (fips.compress fips.start (a ∷ b ∷ c ∷ d ∷ e ∷ f ∷ 0x80000000 ∷ 0 ∷ 0 ∷ 0 ∷ 0 ∷ 0 ∷ 0 ∷ 0 ∷ 0 ∷ 192 ∷ [])) ≡ fips.sha1 (fips.wordBytes (a ∷ b ∷ c ∷ d ∷ e ∷ f ∷ []))
+unfolding shortBlock
+six-words a b c d e f ha hb hc hd he hf =
+    sym (short-words (a ∷ b ∷ c ∷ d ∷ e ∷ f ∷ [])
+    (cons-below ha (cons-below hb (cons-below hc (cons-below hd (cons-below he (cons-below hf (nil-below (omega arith))))))))
+    (omega arith))

@@ -1,12 +1,13 @@
--- The rounds and the schedule grow by one step; a round's range decides its function and its word. Assumes nothing.
-use mathlib.Core.Path.{_≡_, refl, sym}
+-- The rounds and the schedule grow by one step and by spans of them; a round's range decides its function and its word. Assumes
+-- nothing.
+use mathlib.Core.Path.{_≡_, refl, sym, _∙_}
 use mathlib.Core.List.{List}
 use Prim.Native.Nat.{ℕ, _+_, _-_, _≤_, _<_}
 use native.Mathlib.Numerals.{add-one}
 use native.Mathlib.Omega.{arith}
 use borrow.Author.Tests.{lt-ltb, le-ltb}
 use lib.ListN.{length, getD, take, set}
-use lib.Seq.{take-suc-set, getD-take}
+use lib.Seq.{take-suc-set, take-all, getD-take}
 use Rattle.sha1.specs.Sha1 as fips
 use Rattle.sha1.specs.declared.State.{State}
 
@@ -53,6 +54,15 @@ pub rounds-more : (w : List ℕ) (t : ℕ) (s : State) → fips.rounds w (t + 1)
 unfolding fips.rounds
 rounds-more w t s = rw add-one
 
+-- the state r after `from` rounds goes on to x after `to`: what `span` ensures
+abbrev pub Spanned : List ℕ → ℕ → ℕ → State → State → Type 0
+Spanned w from to r x = (s : State) → r ≡ fips.rounds w from s → x ≡ fips.rounds w to s
+
+-- four spans are all the rounds
+pub rounds-all : (w : List ℕ) {s r₁ r₂ r₃ r₄ : State} → Spanned w 0 20 s r₁ → Spanned w 20 40 r₁ r₂ → Spanned w 40 60 r₂ r₃ → Spanned w 60 80 r₃ r₄
+    → r₄ ≡ fips.rounds w 80 s
+rounds-all w {s = s} f₁ f₂ f₃ f₄ = f₄ s (f₃ s (f₂ s (f₁ s (rounds-none w s))))
+
 -- the schedule's next word, stored where it belongs
 pub words-more : (m w : List ℕ) (t v : ℕ) → t < length w → take t w ≡ fips.words m t → v ≡ fips.word m t (take t w)
     → take (t + 1) (set w t v) ≡ fips.words m (t + 1)
@@ -74,3 +84,17 @@ word-later m n w t h =
       getD-take t w (t - 14) 0 (omega arith),
       getD-take t w (t - 16) 0 (omega arith),
     )
+
+-- the schedule's words p up to `from` go on to q up to `to`: what `extend` ensures
+abbrev pub Extended : ℕ → ℕ → List ℕ → List ℕ → Type 0
+Extended from to p q = (m : List ℕ) → p ≡ fips.words m from → q ≡ fips.words m to
+
+-- after the first sixteen words, four spans are the schedule
+pub words-all : (m : List ℕ) {p q r s w : List ℕ} → p ≡ fips.words m 16 → Extended 16 32 p q → Extended 32 48 q r → Extended 48 64 r s
+    → Extended 64 80 s (take 80 w) → length w ≡ 80 → w ≡ fips.words m 80
+words-all m {w = w} e f g h i l = sym (take-all 80 w (omega (arith, l))) ∙ i m (h m (g m (f m e)))
+
+-- all the rounds over the schedule, added to what came in
+pub compressed : (m w : List ℕ) (s : State) {r x : State} → w ≡ fips.words m 80 → r ≡ fips.rounds w 80 s → x ≡ fips.sums s r → x ≡ fips.compress s m
+unfolding fips.compress
+compressed m w s e f g = rw (g, f, e)

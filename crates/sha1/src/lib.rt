@@ -4,8 +4,8 @@
 //     let h = sha1::digest(message);
 //     if h.answer == answers::DONE { .. h.bytes .. }
 //
-// `digest` hashes whole messages. The key derivation goes on from the state after one (`hash`), and compresses blocks of sixteen
-// words that it makes itself (`start`, `compress`).
+// `digest` hashes whole messages. The key derivation goes on from the state after one (`hash`), and hashes six words at a time that
+// it makes itself (`six`).
 ghost use mathlib.Core.Path.{_≡_};
 ghost use Prim.Native.Nat.{_≤_};
 ghost use lib.ListN.{length};
@@ -15,9 +15,11 @@ mod blocks;
 mod padding;
 mod rounds;
 mod schedule;
+mod single;
 
 pub use blocks::output;
 pub use rounds::round_words;
+pub use single::six;
 
 // The five words that go from block to block (FIPS 180-4 6.1).
 pub struct State {
@@ -38,7 +40,7 @@ pub struct Hashed {
 const START: [u32; 5] = [0x67452301, 0xefcdab89, 0x98badcfe, 0x10325476, 0xc3d2e1f0];
 
 // The state before the first block.
-pub fn start() -> State
+fn start() -> State
     ensures { λ r. ⌜ r ≡ fips.start ⌝ }
 {
     State {
@@ -51,7 +53,7 @@ pub fn start() -> State
 }
 
 // One block of sixteen words, the round words lent.
-pub fn compress(s: State, m: &[u32; 16], k: &[u32; 4]) -> State
+fn compress(s: State, m: &[u32; 16], k: &[u32; 4]) -> State
     requires { ⌜ now k ≡ fips.roundWords ⌝ }
     ensures { λ r. ⌜ r ≡ fips.compress s (now (m .entry)) ⌝ }
 {

@@ -79,7 +79,7 @@ fn step(t: usize, k: u32, v: u32, s: State) -> State
 }
 
 // The rounds from `from` up to `to`, after those before; k is the word of each of them.
-fn span(w: &[u32; 80], k: u32, from: usize, to: usize, s: State) -> State
+pub fn span(w: &[u32; 80], k: u32, from: usize, to: usize, s: State) -> State
     requires { ⌜ (from ≤ to) × ((to ≤ 80) × ((t : ℕ) → from ≤ t → t < to → k ≡ fips.constant t)) ⌝ }
     ensures { λ r. ⌜ ((x : State) → s ≡ fips.rounds (now (w .entry)) from x → r ≡ fips.rounds (now (w .entry)) to x) ⌝ }
 {

@@ -16,7 +16,7 @@ fn later(w: &[u32; 80], t: usize) -> u32
 }
 
 // The words from `from` up to `to`, after those before.
-fn extend(w: &mut [u32; 80], from: usize, to: usize)
+pub fn extend(w: &mut [u32; 80], from: usize, to: usize)
     requires { ⌜ (16 ≤ from) × ((from ≤ to) × ((to ≤ 80) × (length (now w) ≡ 80))) ⌝ }
     ensures long { λ _. ⌜ length (now (w .exit)) ≡ 80 ⌝ }
     ensures { λ _. ⌜ ((m : List ℕ) → take from (now (w .entry)) ≡ fips.words m from → take to (now (w .exit)) ≡ fips.words m to) ⌝ }
@@ -28,9 +28,9 @@ fn extend(w: &mut [u32; 80], from: usize, to: usize)
     }
 }
 
-// The schedule of sixteen words.
-pub fn schedule(m: &[u32; 16]) -> [u32; 80]
-    ensures { λ r. ⌜ r ≡ fips.words (now (m .entry)) 80 ⌝ }
+// The schedule's first sixteen words, and zeros.
+pub fn begun(m: &[u32; 16]) -> [u32; 80]
+    ensures { λ r. ⌜ (length r ≡ 80) × (take 16 r ≡ fips.words (now (m .entry)) 16) ⌝ }
 {
     let mut w = [0u32; 80];
     let mut t = 0;
@@ -38,6 +38,14 @@ pub fn schedule(m: &[u32; 16]) -> [u32; 80]
         w[t] = m[t];
         t += 1;
     }
+    w
+}
+
+// The schedule of sixteen words.
+pub fn schedule(m: &[u32; 16]) -> [u32; 80]
+    ensures { λ r. ⌜ r ≡ fips.words (now (m .entry)) 80 ⌝ }
+{
+    let mut w = begun(m);
     extend(&mut w, 16, 32);
     extend(&mut w, 32, 48);
     extend(&mut w, 48, 64);

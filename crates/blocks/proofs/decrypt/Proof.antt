@@ -1,20 +1,32 @@
--- The key and the table are copied once and lent.
-use mathlib.Core.Path.{refl}
+-- The key and the table are copied once, the words laid and the round keys mixed once, and all are lent.
+use mathlib.Core.Path.{_≡_, refl}
 use borrow.Author.Needs.{needs}
+use lib.ListN.{length}
 use Rattle.aes.specs.Tables.{invSbox}
 use Rattle.blocks.specs.Blocks.{decrypting}
 use Rattle.blocks.proofs.decrypt.Statement.{statement}
 use Rattle.blocks.proofs.decrypt.Tie as tie
 
+inverse-requires : tie.Need-inverse-requires
+unfolding invSbox
+inverse-requires c κs = (refl, c .before .before .shares .ensures)
+
+mixed-requires : tie.Need-mixed-requires
+mixed-requires c κs = (search needs, c .before .before .before .before .before .shares .ensures)
+
 decrypt-with-requires : tie.Need-decrypt-with-requires
 unfolding invSbox
 decrypt-with-requires c κs =
-    let p = c .before .before .before .before .before .before .before .before .pre in
-    (p .0, ((search needs, refl, c .before .before .before .before .shares .ensures), p .1))
+    let m = c .before .before .before .before .before in
+    let i = m .before .before .before in
+    let st = i .before .before .before .before .before .before .before in
+    let p = st .pre in
+    let long : length (st .args .key .bytes) ≡ 240 = search needs in
+    ((p .0 .0, p .0 .1, long, search needs), ((m .mixed .ensures, refl, i .inverse .ensures), p .1))
 
 returns : tie.Need-returns
 unfolding decrypting
 returns c = c .before .before .decrypt-with .ensures
 
 pub decrypt-spec : {M : Type 1} → statement M
-decrypt-spec = tie.close (tie.spec (λ c κs. search needs) decrypt-with-requires (λ c. search needs) returns)
+decrypt-spec = tie.close (tie.spec (λ c κs. search needs) inverse-requires mixed-requires decrypt-with-requires (λ c. search needs) returns)

@@ -13,11 +13,11 @@ use Rattle.blocks.proofs.decrypt_with.Statement.{statement}
 use Rattle.blocks.proofs.decrypt_with.Tie as tie
 
 abbrev Inv-loop : tie.InvT-loop
-Inv-loop w rounds table shares src size out₀ i₀ out i =
+Inv-loop w mixed rounds table words src size out₀ i₀ out i =
     (i ≤ size) × (i < size → i % 16 ≡ 0) × (length out ≡ length out₀) × (out ≡ paste out₀ 0 (ecb (invCipher (keyOf w) rounds) src) i)
 
 abbrev μ-loop : tie.MeasureT-loop
-μ-loop w rounds table shares src size out₀ i₀ out i = size - i
+μ-loop w mixed rounds table words src size out₀ i₀ out i = size - i
 
 loop-holds : tie.Need-loop-holds Inv-loop μ-loop
 loop-holds c =
@@ -34,7 +34,7 @@ block-requires c κs = omega (arith, begins (c .before))
 inv-cipher-requires : tie.Need-inv-cipher-requires Inv-loop μ-loop
 inv-cipher-requires c κs =
     let p = c .before .before .before .before .before .before .pre in
-    ((p .0 .0, p .0 .1, p .1 .0 .0), (p .1 .0 .1, p .1 .0 .2))
+    (p .0, p .1 .0)
 
 loop-again : tie.Need-loop-again Inv-loop μ-loop
 loop-again c =

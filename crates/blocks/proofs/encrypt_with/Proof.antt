@@ -16,11 +16,11 @@ use Rattle.blocks.proofs.encrypt_with.Statement.{statement}
 use Rattle.blocks.proofs.encrypt_with.Tie as tie
 
 abbrev Inv-loop : tie.InvT-loop
-Inv-loop w rounds table contents filling size out₀ at i₀ out i =
+Inv-loop w rounds table words contents filling size out₀ at i₀ out i =
     (i ≤ size) × (i % 16 ≡ 0) × (length out ≡ length out₀) × (out ≡ paste out₀ at (ecb (cipher (keyOf w) rounds) (take size (contents ++ filling))) i)
 
 abbrev μ-loop : tie.MeasureT-loop
-μ-loop w rounds table contents filling size out₀ at i₀ out i = size - i
+μ-loop w rounds table words contents filling size out₀ at i₀ out i = size - i
 
 loop-holds : tie.Need-loop-holds Inv-loop μ-loop
 loop-holds c =
@@ -32,10 +32,10 @@ loop-holds c =
     )
 
 filled-block-requires : tie.Need-filled-block-requires Inv-loop μ-loop
-filled-block-requires c κs = (omega arith, c .before .before .before .before .pre .1 .0 .2)
+filled-block-requires c κs = (omega arith, c .before .before .before .before .pre .0 .3)
 
 cipher-requires : tie.Need-cipher-requires Inv-loop μ-loop
-cipher-requires c κs = let p = c .before .before .before .before .before .pre in (p .0 .0, p .0 .1, p .1 .0 .0, p .1 .0 .1)
+cipher-requires c κs = let p = c .before .before .before .before .before .pre in ((p .0 .0, p .0 .1, p .0 .2), p .1 .0)
 
 loop-again : tie.Need-loop-again Inv-loop μ-loop
 loop-again c =

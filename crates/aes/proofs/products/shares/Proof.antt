@@ -1,14 +1,15 @@
 -- Each written table passes the one test of its factor.
-use mathlib.Core.Path.{_∙_}
+use mathlib.Core.Path.{subst⁻¹}
 use borrow.Author.Needs.{needs}
 use Rattle.aes.specs.Field.{xor, double, bit, mulBy, mul}
+use Rattle.aes.specs.Products.{Shares}
 use Rattle.aes.proofs.Shares.{shares-laid}
 use Rattle.aes.proofs.products.shares.Statement.{statement}
 use Rattle.aes.proofs.products.shares.Tie as tie
 
 returns : tie.Need-returns
 unfolding mul mulBy bit double xor
-returns c = c .laid .ensures ∙ shares-laid _ _ _ _ tt tt tt tt
+returns c = subst⁻¹ Shares (c .laid .ensures) (shares-laid _ _ _ _ tt tt tt tt)
 
 pub shares-spec : {M : Type 1} → statement M
 shares-spec = tie.close (tie.spec (λ c κs. search needs) returns)

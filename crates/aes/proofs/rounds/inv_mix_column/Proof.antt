@@ -1,40 +1,23 @@
--- The sum of the four shares, laid in four bytes.
-use mathlib.Core.Path.{refl, _∙_}
+-- The column's word, laid in four bytes.
+use mathlib.Core.Path.{refl, ap, _∙_}
 use native.Mathlib.Omega.{arith}
 use lib.ListN.{replicate}
-use Rattle.octets.proofs.Numbers.{leBytes-over}
+use Rattle.octets.specs.Octets.{leBytes}
+use Rattle.octets.proofs.Numbers.{leBytes-le, leBytes-over}
 use borrow.Author.Needs.{needs}
-use Rattle.aes.specs.Field.{xor}
-use Rattle.aes.proofs.Shares.{inv-column}
+use Rattle.aes.specs.Cipher.{columns, invMixColumns}
+use Rattle.aes.proofs.Shares.{looked-up-bytes}
 use Rattle.aes.proofs.rounds.inv_mix_column.Statement.{statement}
 use Rattle.aes.proofs.rounds.inv_mix_column.Tie as tie
 
 returns : tie.Need-returns
-unfolding xor
+unfolding columns invMixColumns
 returns c =
-    let a = c .before .before .before .before .before .before .before .before .before .before .args in
+    let st = c .before .before .before .before in
+    let a = st .args in
     c .before .put-le32 .ensures ∙ leBytes-over 4 _ (replicate 4 0) refl
-    ∙ rw (
-      c .before .before .before .moved3 .ensures,
-      c .before .before .before .before .share4 .ensures,
-      c .before .before .before .before .before .moved2 .ensures,
-      c .before .before .before .before .before .before .share3 .ensures,
-      c .before .before .before .before .before .before .before .moved .ensures,
-      c .before .before .before .before .before .before .before .before .share2 .ensures,
-      c .before .before .before .before .before .before .before .before .before .share .ensures,
-    ) (inv-column (a .a) (a .b) (a .c) (a .d) (omega arith) (omega arith) (omega arith) (omega arith))
+    ∙ ap (leBytes 4) (c .before .before .column .ensures 14 11 13 9 (λ x. x) (st .pre))
+    ∙ leBytes-le _ (looked-up-bytes 14 11 13 9 (λ x. x) (a .shares .now) (a .a) (a .b) (a .c) (a .d) (omega arith) (omega arith) (omega arith) (omega arith) (st .pre))
 
 pub inv-mix-column-spec : {M : Type 1} → statement M
-inv-mix-column-spec =
-    tie.close
-    (tie.spec
-    (λ c κs. search needs)
-    (λ c κs. search needs)
-    (λ c κs. search needs)
-    (λ c κs. search needs)
-    (λ c κs. search needs)
-    (λ c κs. search needs)
-    (λ c κs. search needs)
-    (λ c. search needs)
-    (λ c κs. search needs)
-    returns)
+inv-mix-column-spec = tie.close (tie.spec (λ c. search needs) (λ c κs. c .before .pre .long) (λ c κs. search needs) returns)

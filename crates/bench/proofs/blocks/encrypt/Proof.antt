@@ -8,10 +8,10 @@ use Rattle.bench.proofs.blocks.encrypt.Statement.{statement}
 use Rattle.bench.proofs.blocks.encrypt.Tie as tie
 
 abbrev Inv-loop : tie.InvT-loop
-Inv-loop w rounds table s₀ n i₀ s i = (i ≤ n) × (length s ≡ length s₀)
+Inv-loop w rounds table words s₀ n i₀ s i = (i ≤ n) × (length s ≡ length s₀)
 
 abbrev μ-loop : tie.MeasureT-loop
-μ-loop w rounds table s₀ n i₀ s i = n - i
+μ-loop w rounds table words s₀ n i₀ s i = n - i
 
 loop-holds : tie.Need-loop-holds Inv-loop μ-loop
 loop-holds c = (omega arith, refl)

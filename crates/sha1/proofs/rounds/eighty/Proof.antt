@@ -1,7 +1,7 @@
 -- The spans one after the other, each with its word.
 use native.Mathlib.Omega.{arith}
 use borrow.Author.Needs.{needs}
-use Rattle.sha1.proofs.Steps.{rounds-none, first-word, second-word, third-word, last-word}
+use Rattle.sha1.proofs.Steps.{rounds-all, first-word, second-word, third-word, last-word}
 use Rattle.sha1.proofs.rounds.eighty.Statement.{statement}
 use Rattle.sha1.proofs.rounds.eighty.Tie as tie
 
@@ -19,9 +19,8 @@ span-requires-4 c κs = (omega arith, (omega arith, λ t g h. last-word _ (c .be
 
 returns : tie.Need-returns
 returns c =
-    let a = c .before .before .before .before .before .before .before .before .args in
-    c .span4 .ensures (a .s) (c .before .before .span3 .ensures (a .s) (c .before .before .before .before .span2 .ensures (a .s)
-    (c .before .before .before .before .before .before .span .ensures (a .s) (rounds-none (a .w .now) (a .s)))))
+    rounds-all _ (c .before .before .before .before .before .before .span .ensures) (c .before .before .before .before .span2 .ensures)
+    (c .before .before .span3 .ensures) (c .span4 .ensures)
 
 pub eighty-spec : {M : Type 1} → statement M
 eighty-spec =

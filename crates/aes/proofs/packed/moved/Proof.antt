@@ -2,8 +2,8 @@
 use native.Mathlib.Omega.{arith}
 use Rattle.aes.proofs.Words.{rotated}
 use borrow.Author.Needs.{needs}
-use Rattle.aes.proofs.products.moved.Statement.{statement}
-use Rattle.aes.proofs.products.moved.Tie as tie
+use Rattle.aes.proofs.packed.moved.Statement.{statement}
+use Rattle.aes.proofs.packed.moved.Tie as tie
 
 returns : tie.Need-returns
 returns c = let a = c .args in rotated (a .k) (a .x) (omega arith) (omega arith)

@@ -1,0 +1,34 @@
+-- The key's word and the column's, summed and laid in four bytes.
+use mathlib.Core.Path.{refl, ap, ap₂, _∙_}
+use mathlib.Core.List.{[], _∷_, map}
+use native.Mathlib.Omega.{arith}
+use borrow.Author.Needs.{needs}
+use lib.ListN.{take, drop, replicate}
+use Rattle.octets.specs.Octets.{le, leBytes, leAt}
+use Rattle.octets.proofs.Parts.{length-part}
+use Rattle.octets.proofs.Numbers.{leBytes-over}
+use Rattle.aes.specs.Field.{xor}
+use Rattle.aes.specs.Cipher.{row, columns}
+use Rattle.aes.proofs.Sums.{comm}
+use Rattle.aes.proofs.Columns.{length-columns}
+use Rattle.aes.proofs.Words.{summed}
+use Rattle.aes.proofs.Shares.{looked-up-bytes}
+use Rattle.columns.proofs.rounds.column.Statement.{statement}
+use Rattle.columns.proofs.rounds.column.Tie as tie
+
+returns : tie.Need-returns
+unfolding xor leAt
+returns c =
+    λ p q s t sub h.
+    let st = c .before .before .before .before .before .before in
+    let a = st .args in
+    let mixed = columns (row p q s t) (map sub (a .a ∷ a .b ∷ a .c ∷ a .d ∷ [])) in
+    let key = take 4 (drop (a .at) (a .w .now)) in
+    let four = c .before .before .before .four .ensures in
+    c .before .put-le32 .ensures ∙ leBytes-over 4 _ (replicate 4 0) refl
+    ∙ ap (leBytes 4) (ap₂ xor (four .0) (c .before .before .column .ensures p q s t sub h) ∙ comm (le key) (le mixed))
+    ∙ summed 4 mixed key (length-columns (row p q s t) (map sub (a .a ∷ a .b ∷ a .c ∷ a .d ∷ []))) (length-part 4 (a .at) (a .w .now) (omega arith))
+    (looked-up-bytes p q s t sub (a .words .now) (a .a) (a .b) (a .c) (a .d) (omega arith) (omega arith) (omega arith) (omega arith) h) (four .1)
+
+pub column-spec : {M : Type 1} → statement M
+column-spec = tie.close (tie.spec (λ c. search needs) (λ c κs. search needs) (λ c κs. search needs) (λ c κs. search needs) returns)

@@ -1,0 +1,52 @@
+-- Each turn lays one word more.
+use mathlib.Core.Path.{refl, subst⁻¹}
+use Prim.Native.Nat.{_-_, _<_}
+use native.Mathlib.Omega.{arith}
+use borrow.Author.Needs.{needs}
+use Rattle.aes.specs.Tables.{look}
+use Rattle.aes.specs.Products.{Laid}
+use Rattle.aes.proofs.Steps.{Filled, filled-none, filled-more, filled-all}
+use Rattle.columns.proofs.Tables.{at, by-table}
+use Rattle.columns.proofs.words.substituted.Statement.{statement}
+use Rattle.columns.proofs.words.substituted.Tie as tie
+
+abbrev Inv-loop : tie.InvT-loop
+Inv-loop table shares words₀ i₀ words i = Filled 256 (at table shares) i words
+
+abbrev μ-loop : tie.MeasureT-loop
+μ-loop table shares words₀ i₀ words i = 256 - i
+
+loop-holds : tie.Need-loop-holds Inv-loop μ-loop
+loop-holds c = filled-none 256 _ _ refl
+
+loop-again : tie.Need-loop-again Inv-loop μ-loop
+loop-again c =
+    let l = c .before .before .before .loop in
+    let a = c .before .before .before .before .args in
+    let within : l .i < 256 = omega arith in
+    filled-more 256 (at (a .table .now) (a .shares .now)) (l .i) (l .words) (c .share .result) within (l .inv) (c .share .ensures)
+
+returns : tie.Need-returns Inv-loop μ-loop
+returns c =
+    λ p q s t b h.
+    let st = c .before .before in
+    let a = st .args in
+    subst⁻¹ (Laid p q s t (look (a .table .now)))
+    (filled-all 256 (at (a .table .now) (a .shares .now)) (c .before .loop .i) (c .before .loop .words) (c .loop-test .left) (c .before .loop .inv))
+    (by-table p q s t (a .table .now) (a .shares .now) (st .pre .0) b h)
+
+pub substituted-spec : {M : Type 1} → statement M
+substituted-spec =
+    tie.close
+    (tie.spec
+    Inv-loop
+    μ-loop
+    loop-holds
+    (λ c. omega arith)
+    (λ c κs. search needs)
+    (λ c. omega arith)
+    (λ c. omega arith)
+    (λ c. omega arith)
+    (λ c. omega arith)
+    loop-again
+    returns)

@@ -1,0 +1,94 @@
+// AES for streams: the cipher of FIPS 197 5.1 and the inverse cipher of 5.3, a column of a round at a time.
+//
+// A byte that is looked up finds its substitution already multiplied by the four factors of the matrix, as a word: the four words of a
+// column, each moved to its byte's row, sum to the column, and the round key's word is added before the sum is taken apart into bytes.
+// For the inverse cipher the order of InvMixColumns and AddRoundKey is turned round, so its round keys go through InvMixColumns first
+// (5.3.5, the equivalent inverse cipher).
+//
+//     let table = aes::tables::SBOX;
+//     let words = columns::forward(&table);
+//     let sealed = columns::cipher(&w, rounds, &table, &words, block);
+//
+// Lay the words and mix the keys once a stream, and lend them: for a lone block that costs more than it saves, and `aes` has the
+// ciphers that do without.
+//
+// Warning: as in `aes`, the time that a look-up takes can betray the byte to whoever shares the processor's cache.
+ghost use mathlib.Core.Path.{_≡_};
+ghost use Prim.Native.Nat.{_<_, _≤_};
+ghost use lib.ListN.{length};
+ghost use Rattle.aes.specs.Tables as Tables;
+ghost use Rattle.aes.specs.Cipher as Cipher;
+ghost use Rattle.aes.specs.Products as Products;
+ghost use Rattle.columns.specs.Columns as Columns;
+
+mod rounds;
+mod words;
+
+use aes::rounds::add_round_key;
+use aes::rounds::inv_mix_columns;
+use aes::rounds::inv_shift_rows;
+use aes::rounds::shift_rows;
+use aes::rounds::sub_bytes;
+use rounds::round;
+pub use words::forward;
+pub use words::inverse;
+
+// Every round key through InvMixColumns.
+pub fn mixed(w: &[u8; 240], shares: &[u32; 256]) -> [u8; 240]
+    requires { ⌜ (length (now w) ≡ 240) × Products.Shares (now shares) ⌝ }
+    ensures { λ r. ⌜ r ≡ Cipher.invMixColumns (now (w .entry)) ⌝ }
+{
+    let mut m = [0u8; 240];
+    let mut n = 0;
+    while n < 15 {
+        let k = inv_mix_columns(shares, rounds::key(w, n));
+        octets::copy(&k, 0, 16, &mut m, 16 * n);
+        n += 1;
+    }
+    m
+}
+
+// The cipher of `rounds` rounds under the expanded key w, with the substitution table and its words lent.
+pub fn cipher(
+    w: &[u8; 240],
+    rounds: usize,
+    table: &[u8; 256],
+    words: &[u32; 256],
+    block: [u8; 16],
+) -> [u8; 16]
+    requires { ⌜ (0 < rounds) × (rounds ≤ 14) × (length (now w) ≡ 240) ⌝ }
+    requires { ⌜ (now table ≡ Tables.sbox) × Columns.Forward (now words) ⌝ }
+    ensures { λ r. ⌜ r ≡ Cipher.cipher (Cipher.keyOf (now (w .entry))) rounds block ⌝ }
+{
+    let mut s = add_round_key(w, 0, block);
+    let mut n = 1;
+    while n < rounds {
+        let t = round(words, w, n, shift_rows(s));
+        s = t;
+        n += 1;
+    }
+    add_round_key(w, rounds, shift_rows(sub_bytes(table, s)))
+}
+
+// The inverse cipher of `rounds` rounds under the expanded key w, with its mixed round keys, the inverse table and its words lent.
+pub fn inv_cipher(
+    w: &[u8; 240],
+    mixed: &[u8; 240],
+    rounds: usize,
+    table: &[u8; 256],
+    words: &[u32; 256],
+    block: [u8; 16],
+) -> [u8; 16]
+    requires { ⌜ (0 < rounds) × (rounds ≤ 14) × (length (now w) ≡ 240) × (length (now mixed) ≡ 240) ⌝ }
+    requires { ⌜ (now mixed ≡ Cipher.invMixColumns (now w)) × (now table ≡ Tables.invSbox) × Columns.Inverse (now words) ⌝ }
+    ensures { λ r. ⌜ r ≡ Cipher.invCipher (Cipher.keyOf (now (w .entry))) rounds block ⌝ }
+{
+    let mut s = add_round_key(w, rounds, block);
+    let mut n = rounds - 1;
+    while 0 < n {
+        let t = round(words, mixed, n, inv_shift_rows(s));
+        s = t;
+        n -= 1;
+    }
+    add_round_key(w, 0, sub_bytes(table, inv_shift_rows(s)))
+}

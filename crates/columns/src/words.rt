@@ -1,0 +1,57 @@
+// The words of the two ciphers, laid once a stream: in each a byte finds the share of its substitution (FIPS 197 5.1.3, 5.3.3).
+ghost use mathlib.Core.Path.{_≡_};
+ghost use Prim.Native.Nat.{ℕ};
+ghost use lib.ListN.{length};
+ghost use Rattle.octets.specs.Octets.{Bytes};
+ghost use Rattle.aes.specs.Tables as Tables;
+ghost use Rattle.aes.specs.Products.{Laid, Shares};
+ghost use Rattle.columns.specs.Columns as Columns;
+use aes::field::double;
+use aes::packed::word;
+use aes::products::share;
+
+// Each byte's share of a column of MixColumns: 2, 1, 1 and 3 times the byte.
+fn shares() -> [u32; 256]
+    ensures { λ r. ⌜ Laid 2 3 1 1 (λ x. x) r ⌝ }
+{
+    let mut words = [0u32; 256];
+    let mut i = 0;
+    while i < 256 {
+        let x = i as u8;
+        let y = double(x);
+        words[i] = word(y, x, x, y ^ x);
+        i += 1;
+    }
+    words
+}
+
+// The shares, each at the byte that is substituted by its own.
+fn substituted(table: &[u8; 256], shares: &[u32; 256]) -> [u32; 256]
+    requires { ⌜ (length (now table) ≡ 256) × (length (now shares) ≡ 256) ⌝ }
+    ensures { λ r. ⌜ ((p q s t : ℕ) → Bytes (now (table .entry)) → Laid p q s t (λ x. x) (now (shares .entry)) → Laid p q s t (Tables.look (now (table .entry))) r) ⌝ }
+{
+    let mut words = [0u32; 256];
+    let mut i = 0;
+    while i < 256 {
+        words[i] = share(shares, table[i]);
+        i += 1;
+    }
+    words
+}
+
+// The words of the cipher, from the substitution table.
+pub fn forward(table: &[u8; 256]) -> [u32; 256]
+    requires { ⌜ now table ≡ Tables.sbox ⌝ }
+    ensures { λ r. ⌜ Columns.Forward r ⌝ }
+{
+    let mix = shares();
+    substituted(table, &mix)
+}
+
+// The words of the inverse cipher, from the inverse table and the shares of InvMixColumns.
+pub fn inverse(table: &[u8; 256], shares: &[u32; 256]) -> [u32; 256]
+    requires { ⌜ (now table ≡ Tables.invSbox) × Shares (now shares) ⌝ }
+    ensures { λ r. ⌜ Columns.Inverse r ⌝ }
+{
+    substituted(table, shares)
+}
