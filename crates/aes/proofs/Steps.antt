@@ -76,6 +76,7 @@ unfolding invRounds
 invRounds-less key zero s h = absurd (omega arith)
 invRounds-less key (suc n) s h = let e : suc n - 1 ≡ n = omega arith in rw e
 
-pub invRounds-none : (key : ℕ → List ℕ) (s : List ℕ) → invRounds key 0 s ≡ s
+-- no round left to go
+pub invRounds-done : (key : ℕ → List ℕ) (n k : ℕ) (s t : List ℕ) → n ≡ 0 → invRounds key n s ≡ invRounds key k t → s ≡ invRounds key k t
 unfolding invRounds
-invRounds-none key s = refl
+invRounds-done key n k s t e h = ap (λ (m : ℕ). invRounds key m s) (sym e) ∙ h

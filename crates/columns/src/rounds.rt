@@ -18,7 +18,8 @@ pub fn key(w: &[u8; 240], n: usize) -> [u8; 16]
     k
 }
 
-// A column substituted and mixed, with the key's four bytes at `at` added.
+// A column substituted and mixed, with the key's four bytes at `at` added: they come first, so that the next round waits for one sum
+// fewer.
 fn column(words: &[u32; 256], w: &[u8; 240], at: usize, a: u8, b: u8, c: u8, d: u8) -> [u8; 4]
     requires { ⌜ (length (now words) ≡ 256) × (length (now w) ≡ 240) × (at + 4 ≤ 240) ⌝ }
     ensures { λ r. ⌜ ((p q s t : ℕ) (sub : ℕ → ℕ) → Laid p q s t sub (now (words .entry)) → r ≡ Cipher.addRoundKey (Cipher.columns (Cipher.row p q s t) (map sub (a ∷ b ∷ c ∷ d ∷ []))) (take 4 (drop at (now (w .entry))))) ⌝ }
