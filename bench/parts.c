@@ -104,7 +104,7 @@ static void set_key(size_t bits)
         }
 }
 
-/* the share of the byte y in its column, once a matrix has the first column p */
+/* the share of the byte y in its column, by a matrix whose first column is p */
 static uint32_t share(const unsigned char *p, unsigned char y)
 {
     return times(y, p[0]) | (uint32_t)times(y, p[1]) << 8 | (uint32_t)times(y, p[2]) << 16 | (uint32_t)times(y, p[3]) << 24;

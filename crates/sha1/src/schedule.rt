@@ -28,7 +28,7 @@ pub fn extend(w: &mut [u32; 80], from: usize, to: usize)
     }
 }
 
-// The schedule's first sixteen words, and zeros.
+// The schedule's first sixteen words; `extend` makes the others.
 pub fn begun(m: &[u32; 16]) -> [u32; 80]
     ensures { λ r. ⌜ (length r ≡ 80) × (take 16 r ≡ fips.words (now (m .entry)) 16) ⌝ }
 {
