@@ -11,7 +11,7 @@ use lib.Seq.{take-at, drop-at, take-add, drop-drop, length-take-le}
 use Rattle.octets.proofs.Parts.{length-part}
 use Rattle.aes.specs.Field.{xor}
 use Rattle.aes.specs.Tables.{look, sbox, invSbox}
-use Rattle.aes.specs.Cipher.{subBytes, invSubBytes, shift, shiftRows, invShiftRows, row, columns, mixColumns, invMixColumns, addRoundKey, keyOf, round, invRound, rounds, invRounds, cipher, invCipher}
+use Rattle.aes.specs.Cipher.{subBytes, invSubBytes, shift, shiftRows, invShiftRows, row, columns, mixColumns, invMixColumns, addRoundKey, roundKey, round, invRound, rounds, invRounds, cipher, invCipher}
 use Rattle.aes.proofs.Sums.{swap, mul-sum}
 use Rattle.aes.proofs.Columns.{length-columns}
 use Rattle.aes.proofs.States.{opened, length-invSubBytes, length-invShiftRows}
@@ -62,8 +62,8 @@ module _ (m : ℕ → ℕ → ℕ → ℕ → ℕ) where
       ∙ ap (λ (u : List ℕ). columns m u ++ columns m y) whole
 
   -- so a round key of the mixed keys is the round key, mixed
-  columns-key : (w : List ℕ) (r : ℕ) → 16 * r + 16 ≤ length w → keyOf (columns m w) r ≡ columns m (keyOf w r)
-  unfolding keyOf
+  columns-key : (w : List ℕ) (r : ℕ) → 16 * r + 16 ≤ length w → roundKey (columns m w) r ≡ columns m (roundKey w r)
+  unfolding roundKey
   columns-key w r h =
       let x = take (16 * r) w in
       let k = take 16 (drop (16 * r) w) in
@@ -77,17 +77,17 @@ module _ (m : ℕ → ℕ → ℕ → ℕ → ℕ) where
       ∙ ap (take 16) (drop-at (columns m x) (columns m k ++ columns m y) (16 * r) (length-columns m x ∙ lx))
       ∙ take-at (columns m k) (columns m y) 16 (length-columns m k ∙ lk)
 
-pub mixed-key : (w : List ℕ) (r : ℕ) → 16 * r + 16 ≤ length w → keyOf (invMixColumns w) r ≡ invMixColumns (keyOf w r)
+pub mixed-key : (w : List ℕ) (r : ℕ) → 16 * r + 16 ≤ length w → roundKey (invMixColumns w) r ≡ invMixColumns (roundKey w r)
 unfolding invMixColumns
 mixed-key = columns-key (row 14 11 13 9)
 
-pub keyOf-is : (w : List ℕ) (n : ℕ) → keyOf w n ≡ take 16 (drop (16 * n) w)
-unfolding keyOf
-keyOf-is w n = refl
+pub roundKey-is : (w : List ℕ) (n : ℕ) → roundKey w n ≡ take 16 (drop (16 * n) w)
+unfolding roundKey
+roundKey-is w n = refl
 
-pub length-keyOf : (w : List ℕ) (n : ℕ) → 16 * n + 16 ≤ length w → length (keyOf w n) ≡ 16
-unfolding keyOf
-length-keyOf w n h = length-part 16 (16 * n) w h
+pub length-roundKey : (w : List ℕ) (n : ℕ) → 16 * n + 16 ≤ length w → length (roundKey w n) ≡ 16
+unfolding roundKey
+length-roundKey w n h = length-part 16 (16 * n) w h
 
 -- ---- a round of each cipher
 
@@ -98,8 +98,8 @@ pub by-keyed-columns : (p q r t : ℕ) (sub : ℕ → ℕ) (s w : List ℕ) (n :
     → b ≡ addRoundKey (columns (row p q r t) (map sub (column s 4))) (take 4 (drop (16 * n + 4) w))
     → c ≡ addRoundKey (columns (row p q r t) (map sub (column s 8))) (take 4 (drop (16 * n + 8) w))
     → d ≡ addRoundKey (columns (row p q r t) (map sub (column s 12))) (take 4 (drop (16 * n + 12) w))
-    → x ≡ addRoundKey (columns (row p q r t) (map sub s)) (keyOf w n)
-unfolding columns keyOf
+    → x ≡ addRoundKey (columns (row p q r t) (map sub s)) (roundKey w n)
+unfolding columns roundKey
 by-keyed-columns p q r t sub s w n x a b c d hs hw e ea eb ec ed =
     let f : ℕ → List ℕ = λ i. columns (row p q r t) (map sub (column s i)) in
     let k : ℕ → List ℕ = λ i. take 4 (drop (16 * n + i) w) in
@@ -131,13 +131,13 @@ unfolding round mixColumns subBytes
 by-round key n s h = ap (λ (u : List ℕ). addRoundKey (columns (row 2 3 1 1) u) (key n)) (sub-shift (look sbox) s h)
 
 pub by-invRound : (w : List ℕ) (n : ℕ) (s : List ℕ) → 16 * n + 16 ≤ length w
-    → addRoundKey (columns (row 14 11 13 9) (map (look invSbox) (invShiftRows s))) (keyOf (invMixColumns w) n) ≡ invRound (keyOf w) n s
+    → addRoundKey (columns (row 14 11 13 9) (map (look invSbox) (invShiftRows s))) (roundKey (invMixColumns w) n) ≡ invRound (roundKey w) n s
 unfolding invRound invMixColumns invSubBytes
 by-invRound w n s h =
     let x = invSubBytes (invShiftRows s) in
-    let long : length (keyOf w n) ≡ 16 = length-keyOf w n h in
+    let long : length (roundKey w n) ≡ 16 = length-roundKey w n h in
     ap (addRoundKey (columns (row 14 11 13 9) x)) (mixed-key w n h)
-    ∙ sym (columns-sum 14 11 13 9 4 x (keyOf w n) (length-invSubBytes (invShiftRows s) ∙ length-invShiftRows s) long)
+    ∙ sym (columns-sum 14 11 13 9 4 x (roundKey w n) (length-invSubBytes (invShiftRows s) ∙ length-invShiftRows s) long)
 
 -- the last round of each cipher, after the rounds before it
 pub cipher-last : (key : ℕ → List ℕ) (n : ℕ) (s : List ℕ)

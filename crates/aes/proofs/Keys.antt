@@ -14,12 +14,12 @@ use Rattle.octets.specs.Octets.{Bytes}
 use Rattle.octets.proofs.Below.{append-below, replicate-below}
 use Rattle.answers.specs.Rules.{OneOf}
 use Rattle.answers.proofs.Laws.{either}
-use Rattle.aes.specs.Cipher.{keyOf, cipher, invCipher}
+use Rattle.aes.specs.Cipher.{roundKey, cipher, invCipher}
 use Rattle.aes.specs.Expansion.{roundsFor, schedule}
-use Rattle.aes.specs.Aes.{keyLength, roundCount, wordsOf, encryption, decryption, done, refused, encrypted, decrypted, expanded, encryptedBy, decryptedBy}
+use Rattle.aes.specs.Aes.{keyLength, roundCount, wordsOf, encryption, decryption, doneBlock, refusedBlock, encrypted, decrypted, expanded, encryptedBy, decryptedBy}
 use Rattle.aes.specs.declared.Expanded.{Expanded}
 use Rattle.aes.specs.declared.Reply.{Reply}
-use Rattle.aes.proofs.States.{keyOf-bytes}
+use Rattle.aes.proofs.States.{roundKey-bytes}
 use Rattle.aes.proofs.Schedule.{length-schedule, schedule-bytes}
 use Rattle.aes.proofs.Undo.{invCipher-cipher, cipher-invCipher, length-cipher, length-invCipher, cipher-bytes, invCipher-bytes, cipher-same, invCipher-same}
 
@@ -50,19 +50,19 @@ within n = ⊎-elim (λ e. (omega arith, omega arith)) (⊎-elim (λ e. (omega a
 
 -- ---- what a key's length says
 
-pub record Fits (k : List ℕ) : Type 0 where
+pub record Suits (k : List ℕ) : Type 0 where
   pub few : 4 ≤ wordsOf k
   pub most : wordsOf k ≤ 8
   pub whole : length k ≡ 4 * wordsOf k
   pub counted : roundCount (roundsFor (wordsOf k)) ≡ true
 
-fits-at : (k : List ℕ) (m : ℕ) → length k ≡ 4 * m → 4 ≤ m → m ≤ 8 → roundCount (m + 6) ≡ true → Fits k
+fits-at : (k : List ℕ) (m : ℕ) → length k ≡ 4 * m → 4 ≤ m → m ≤ 8 → roundCount (m + 6) ≡ true → Suits k
 unfolding wordsOf roundsFor
 fits-at k m e low high t =
     let words : length k / 4 ≡ m = omega arith in
     record { few = omega arith; most = omega arith; whole = omega arith; counted = rw words t }
 
-pub fits : (k : List ℕ) → keyLength (length k) ≡ true → Fits k
+pub fits : (k : List ℕ) → keyLength (length k) ≡ true → Suits k
 unfolding keyLength roundCount
 fits k t =
     ⊎-elim (λ e. fits-at k 4 e (omega arith) (omega arith) refl)
@@ -94,23 +94,23 @@ module _ (k : List ℕ) where
 
 -- ---- the zeros after an expanded key
 
-keyOf-front : (w z : List ℕ) (r : ℕ) → 16 * r + 16 ≤ length w → keyOf (w ++ z) r ≡ keyOf w r
-unfolding keyOf
-keyOf-front w z r h =
+roundKey-front : (w z : List ℕ) (r : ℕ) → 16 * r + 16 ≤ length w → roundKey (w ++ z) r ≡ roundKey w r
+unfolding roundKey
+roundKey-front w z r h =
     rw (drop-append-le (16 * r) w z (omega arith)) (take-append-le 16 (drop (16 * r) w) z (simp length-drop (omega arith)))
 
 -- ---- both directions: a block by the cipher f
 
 -- under an expanded key
 abbrev by : ((ℕ → List ℕ) → ℕ → List ℕ → List ℕ) → List ℕ → Expanded → Reply
-by f s e = cond (roundCount (e .rounds)) (done (f (keyOf (e .bytes)) (e .rounds) s)) refused
+by f s e = cond (roundCount (e .rounds)) (doneBlock (f (roundKey (e .bytes)) (e .rounds) s)) refusedBlock
 
 module _ (f : (ℕ → List ℕ) → ℕ → List ℕ → List ℕ) (s : List ℕ) (e : Expanded) where
-  pub answered : (r : List ℕ) → Listed (e .rounds) 10 12 14 → r ≡ f (keyOf (e .bytes)) (e .rounds) s → done r ≡ by f s e
+  pub answered : (r : List ℕ) → Listed (e .rounds) 10 12 14 → r ≡ f (roundKey (e .bytes)) (e .rounds) s → doneBlock r ≡ by f s e
   unfolding roundCount
   answered r l q = rw (q, listed (e .rounds) 10 12 14 l)
 
-  pub unanswered : (r : Reply) → (Listed (e .rounds) 10 12 14 → ⊥) → r ≡ refused → r ≡ by f s e
+  pub unanswered : (r : Reply) → (Listed (e .rounds) 10 12 14 → ⊥) → r ≡ refusedBlock → r ≡ by f s e
   unfolding roundCount
   unanswered r l q = rw (q, unlisted (e .rounds) 10 12 14 l)
 
@@ -118,30 +118,30 @@ module _ (f : (ℕ → List ℕ) → ℕ → List ℕ → List ℕ)
     (same : (key key′ : ℕ → List ℕ) (n : ℕ) (s : List ℕ) → ((r : ℕ) → r ≤ n → key r ≡ key′ r) → f key n s ≡ f key′ n s) (k s : List ℕ) where
   -- a block by f under a key
   abbrev given : List ℕ
-  given = f (keyOf (schedule (wordsOf k) k)) (roundsFor (wordsOf k)) s
+  given = f (roundKey (schedule (wordsOf k) k)) (roundsFor (wordsOf k)) s
 
   -- a cipher reads only the keys of its rounds
-  under : Fits k → f (keyOf (schedule (wordsOf k) k ++ tail k)) (roundsFor (wordsOf k)) s ≡ given
+  under : Suits k → f (roundKey (schedule (wordsOf k) k ++ tail k)) (roundsFor (wordsOf k)) s ≡ given
   under h =
       let long = length-schedule (wordsOf k) k (omega (arith, h .few)) (h .whole) in
-      same (keyOf (schedule (wordsOf k) k ++ tail k)) (keyOf (schedule (wordsOf k) k)) (roundsFor (wordsOf k)) s
-      (λ r l. keyOf-front (schedule (wordsOf k) k) (tail k) r (omega arith))
+      same (roundKey (schedule (wordsOf k) k ++ tail k)) (roundKey (schedule (wordsOf k) k)) (roundsFor (wordsOf k)) s
+      (λ r l. roundKey-front (schedule (wordsOf k) k) (tail k) r (omega arith))
 
-  by-expanded : keyLength (length k) ≡ true → f (keyOf (expanded k .bytes)) (expanded k .rounds) s ≡ given
-  by-expanded t = ap (λ (e : Expanded). f (keyOf (e .bytes)) (e .rounds) s) (expanded-fit k t) ∙ under (fits k t)
+  by-expanded : keyLength (length k) ≡ true → f (roundKey (expanded k .bytes)) (expanded k .rounds) s ≡ given
+  by-expanded t = ap (λ (e : Expanded). f (roundKey (e .bytes)) (e .rounds) s) (expanded-fit k t) ∙ under (fits k t)
 
-  by-fit : keyLength (length k) ≡ true → by f s (expanded k) ≡ done given
+  by-fit : keyLength (length k) ≡ true → by f s (expanded k) ≡ doneBlock given
   by-fit t =
       ap (by f s) (expanded-fit k t)
-      ∙ ap (λ (b : Bool). cond b (done (f (keyOf (schedule (wordsOf k) k ++ tail k)) (roundsFor (wordsOf k)) s)) refused) (fits k t .counted)
-      ∙ ap done (under (fits k t))
+      ∙ ap (λ (b : Bool). cond b (doneBlock (f (roundKey (schedule (wordsOf k) k ++ tail k)) (roundsFor (wordsOf k)) s)) refusedBlock) (fits k t .counted)
+      ∙ ap doneBlock (under (fits k t))
 
-  by-other : keyLength (length k) ≡ false → by f s (expanded k) ≡ refused
+  by-other : keyLength (length k) ≡ false → by f s (expanded k) ≡ refusedBlock
   unfolding roundCount
   by-other t = ap (by f s) (expanded-other k t)
 
   -- a key that is expanded first
-  by-key : by f s (expanded k) ≡ cond (keyLength (length k)) (done given) refused
+  by-key : by f s (expanded k) ≡ cond (keyLength (length k)) (doneBlock given) refusedBlock
   by-key = ⊎-elim (λ t. rw t (by-fit t)) (λ t. rw t (by-other t)) (either (keyLength (length k)))
 
 pub encrypted-expanded : (k s : List ℕ) → encryptedBy (expanded k) s ≡ encrypted k s
@@ -155,7 +155,7 @@ decrypted-expanded = by-key invCipher invCipher-same
 -- ---- what the crates above rest on
 
 module _ (k : List ℕ) where
-  long-fit : Fits k → length (schedule (wordsOf k) k ++ tail k) ≡ 240
+  long-fit : Suits k → length (schedule (wordsOf k) k ++ tail k) ≡ 240
   unfolding roundsFor
   long-fit h =
       let long = length-schedule (wordsOf k) k (omega (arith, h .few)) (h .whole) in
@@ -182,79 +182,79 @@ module _ (k : List ℕ) where
 
   module _ (s : List ℕ) where
     -- the ciphers under the expanded key of k
-    pub cipher-expanded : keyLength (length k) ≡ true → cipher (keyOf (expanded k .bytes)) (expanded k .rounds) s ≡ encryption k s
+    pub cipher-expanded : keyLength (length k) ≡ true → cipher (roundKey (expanded k .bytes)) (expanded k .rounds) s ≡ encryption k s
     unfolding encryption
     cipher-expanded = by-expanded cipher cipher-same k s
 
-    pub invCipher-expanded : keyLength (length k) ≡ true → invCipher (keyOf (expanded k .bytes)) (expanded k .rounds) s ≡ decryption k s
+    pub invCipher-expanded : keyLength (length k) ≡ true → invCipher (roundKey (expanded k .bytes)) (expanded k .rounds) s ≡ decryption k s
     unfolding decryption
     invCipher-expanded = by-expanded invCipher invCipher-same k s
 
     -- each undoes the other
     pub decryption-encryption : length s ≡ 16 → decryption k (encryption k s) ≡ s
     unfolding encryption decryption
-    decryption-encryption = invCipher-cipher (keyOf (schedule (wordsOf k) k)) (roundsFor (wordsOf k)) s
+    decryption-encryption = invCipher-cipher (roundKey (schedule (wordsOf k) k)) (roundsFor (wordsOf k)) s
 
     pub encryption-decryption : length s ≡ 16 → encryption k (decryption k s) ≡ s
     unfolding encryption decryption
-    encryption-decryption = cipher-invCipher (keyOf (schedule (wordsOf k) k)) (roundsFor (wordsOf k)) s
+    encryption-decryption = cipher-invCipher (roundKey (schedule (wordsOf k) k)) (roundsFor (wordsOf k)) s
 
     -- sixteen bytes come out
     pub length-encryption : length (encryption k s) ≡ 16
     unfolding encryption
-    length-encryption = length-cipher (keyOf (schedule (wordsOf k) k)) (roundsFor (wordsOf k)) s
+    length-encryption = length-cipher (roundKey (schedule (wordsOf k) k)) (roundsFor (wordsOf k)) s
 
     pub length-decryption : length (decryption k s) ≡ 16
     unfolding decryption
-    length-decryption = length-invCipher (keyOf (schedule (wordsOf k) k)) (roundsFor (wordsOf k)) s
+    length-decryption = length-invCipher (roundKey (schedule (wordsOf k) k)) (roundsFor (wordsOf k)) s
 
-    key-bytes : Bytes k → (r : ℕ) → Bytes (keyOf (schedule (wordsOf k) k) r)
-    key-bytes b = keyOf-bytes (schedule (wordsOf k) k) (schedule-bytes (wordsOf k) k b)
+    key-bytes : Bytes k → (r : ℕ) → Bytes (roundKey (schedule (wordsOf k) k) r)
+    key-bytes b = roundKey-bytes (schedule (wordsOf k) k) (schedule-bytes (wordsOf k) k b)
 
     pub encryption-bytes : Bytes k → Bytes s → Bytes (encryption k s)
     unfolding encryption
-    encryption-bytes b = cipher-bytes (keyOf (schedule (wordsOf k) k)) (key-bytes b) (roundsFor (wordsOf k)) s
+    encryption-bytes b = cipher-bytes (roundKey (schedule (wordsOf k) k)) (key-bytes b) (roundsFor (wordsOf k)) s
 
     pub decryption-bytes : Bytes k → Bytes s → Bytes (decryption k s)
     unfolding decryption
-    decryption-bytes b = invCipher-bytes (keyOf (schedule (wordsOf k) k)) (key-bytes b) (roundsFor (wordsOf k)) s
+    decryption-bytes b = invCipher-bytes (roundKey (schedule (wordsOf k) k)) (key-bytes b) (roundsFor (wordsOf k)) s
 
     -- the two ways out of the entries
     module _ (t : keyLength (length k) ≡ true) where
-      pub encrypted-fit : encrypted k s ≡ done (encryption k s)
+      pub encrypted-fit : encrypted k s ≡ doneBlock (encryption k s)
       unfolding encrypted
       encrypted-fit = rw t
 
-      pub decrypted-fit : decrypted k s ≡ done (decryption k s)
+      pub decrypted-fit : decrypted k s ≡ doneBlock (decryption k s)
       unfolding decrypted
       decrypted-fit = rw t
 
       -- and of those under the expanded key
       pub encrypted-block : encryptedBy (expanded k) s .block ≡ encryption k s
-      unfolding done
+      unfolding doneBlock
       encrypted-block = ap (λ (r : Reply). r .block) (encrypted-expanded k s ∙ encrypted-fit)
 
       pub decrypted-block : decryptedBy (expanded k) s .block ≡ decryption k s
-      unfolding done
+      unfolding doneBlock
       decrypted-block = ap (λ (r : Reply). r .block) (decrypted-expanded k s ∙ decrypted-fit)
 
     module _ (t : keyLength (length k) ≡ false) where
-      pub encrypted-other : encrypted k s ≡ refused
+      pub encrypted-other : encrypted k s ≡ refusedBlock
       unfolding encrypted
       encrypted-other = rw t
 
-      pub decrypted-other : decrypted k s ≡ refused
+      pub decrypted-other : decrypted k s ≡ refusedBlock
       unfolding decrypted
       decrypted-other = rw t
 
 -- the entries, one after the other
 module _ (k s : List ℕ) (t : keyLength (length k) ≡ true) (h : length s ≡ 16) where
-  pub decrypted-encrypted : decrypted k (encrypted k s .block) ≡ done s
-  unfolding done
+  pub decrypted-encrypted : decrypted k (encrypted k s .block) ≡ doneBlock s
+  unfolding doneBlock
   decrypted-encrypted =
-      ap (λ (r : Reply). decrypted k (r .block)) (encrypted-fit k s t) ∙ decrypted-fit k (encryption k s) t ∙ ap done (decryption-encryption k s h)
+      ap (λ (r : Reply). decrypted k (r .block)) (encrypted-fit k s t) ∙ decrypted-fit k (encryption k s) t ∙ ap doneBlock (decryption-encryption k s h)
 
-  pub encrypted-decrypted : encrypted k (decrypted k s .block) ≡ done s
-  unfolding done
+  pub encrypted-decrypted : encrypted k (decrypted k s .block) ≡ doneBlock s
+  unfolding doneBlock
   encrypted-decrypted =
-      ap (λ (r : Reply). encrypted k (r .block)) (decrypted-fit k s t) ∙ encrypted-fit k (decryption k s) t ∙ ap done (encryption-decryption k s h)
+      ap (λ (r : Reply). encrypted k (r .block)) (decrypted-fit k s t) ∙ encrypted-fit k (decryption k s) t ∙ ap doneBlock (encryption-decryption k s h)

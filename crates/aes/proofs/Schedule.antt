@@ -16,7 +16,7 @@ use Rattle.octets.proofs.Parts.{paste-next, drop-replicate}
 use Rattle.aes.specs.Field.{xor}
 use Rattle.aes.specs.Tables.{look, sbox, roundConstant}
 use Rattle.aes.specs.Cipher.{subBytes, addRoundKey}
-use Rattle.aes.specs.Expansion.{word, rotWord, turned, next, longer, extended, roundsFor, schedule}
+use Rattle.aes.specs.Expansion.{keyWord, rotWord, turned, next, longerKey, extended, roundsFor, schedule}
 use Rattle.aes.proofs.Entries.{constant-byte}
 use Rattle.aes.proofs.States.{opened, length-addRoundKey, subBytes-bytes, addRoundKey-bytes}
 
@@ -38,8 +38,8 @@ pub word-added : (u t : List ℕ) → length u ≡ 4 → length t ≡ 4
 unfolding addRoundKey
 word-added u t hu ht = ap₂ addRoundKey (opened 4 u hu) (opened 4 t ht)
 
-length-word : (w : List ℕ) (m : ℕ) → 4 * m + 4 ≤ length w → length (word w m) ≡ 4
-unfolding word
+length-word : (w : List ℕ) (m : ℕ) → 4 * m + 4 ≤ length w → length (keyWord w m) ≡ 4
+unfolding keyWord
 length-word w m h = length-take-le 4 (drop (4 * m) w) (simp length-drop (omega arith))
 
 -- ---- what is added, case by case
@@ -74,8 +74,8 @@ constant-place nk i h p l =
 -- ---- words before their list's end
 
 module _ (x z : List ℕ) where
-  word-front : (m : ℕ) → 4 * m + 4 ≤ length x → word (x ++ z) m ≡ word x m
-  unfolding word
+  word-front : (m : ℕ) → 4 * m + 4 ≤ length x → keyWord (x ++ z) m ≡ keyWord x m
+  unfolding keyWord
   word-front m h =
       rw (drop-append-le (4 * m) x z (omega arith)) (take-append-le 4 (drop (4 * m) x) z (simp length-drop (omega arith)))
 
@@ -86,11 +86,11 @@ module _ (x z : List ℕ) where
 length-next : (nk i : ℕ) (w : List ℕ) → 0 < nk → nk ≤ i → 4 * i ≤ length w → length (next nk i w) ≡ 4
 unfolding next
 length-next nk i w h p l =
-    length-addRoundKey (word w (i - nk)) (turned nk i (word w (i - 1))) ∙ length-word w (i - nk) (omega arith)
+    length-addRoundKey (keyWord w (i - nk)) (turned nk i (keyWord w (i - 1))) ∙ length-word w (i - nk) (omega arith)
 
 module _ (nk : ℕ) (k : List ℕ) (h : 0 < nk) (size : length k ≡ 4 * nk) where
   pub length-extended : (n : ℕ) → length (extended nk k n) ≡ 4 * (nk + n)
-  unfolding extended longer
+  unfolding extended longerKey
   length-extended zero = size ∙ rw add-zero
   length-extended (suc n) =
       let ih = length-extended n in
@@ -103,7 +103,7 @@ module _ (nk : ℕ) (k : List ℕ) (h : 0 < nk) (size : length k ≡ 4 * nk) whe
   -- a turn of the loop: word i, laid after the words before it
   pub extended-more : (w w′ t : List ℕ) (i : ℕ) → nk ≤ i → 4 * i + 4 ≤ 240 → w ≡ before i → t ≡ next nk i w → w′ ≡ paste w (4 * i) t 4
       → w′ ≡ before (i + 1)
-  unfolding extended longer
+  unfolding extended longerKey
   extended-more w w′ t i p l e q r =
       let x = extended nk k (i - nk) in
       let here : nk + (i - nk) ≡ i = omega arith in
@@ -140,8 +140,8 @@ cond-bytes : (c : Bool) {s t : List ℕ} → Bytes s → Bytes t → Bytes (cond
 cond-bytes true p q = p
 cond-bytes false p q = q
 
-word-bytes : (w : List ℕ) (m : ℕ) → Bytes w → Bytes (word w m)
-unfolding word
+word-bytes : (w : List ℕ) (m : ℕ) → Bytes w → Bytes (keyWord w m)
+unfolding keyWord
 word-bytes w m b = take-below 4 (drop (4 * m) w) (drop-below (4 * m) w b)
 
 rotWord-bytes : (t : List ℕ) → Bytes t → Bytes (rotWord t)
@@ -157,14 +157,14 @@ turned-bytes nk i t b =
     (cond-bytes (ltb 6 nk && eqb (i % nk) 4) (subBytes-bytes t b) b)
 
 extended-bytes : (nk : ℕ) (k : List ℕ) (n : ℕ) → Bytes k → Bytes (extended nk k n)
-unfolding extended longer next word
+unfolding extended longerKey next keyWord
 extended-bytes nk k zero b = b
 extended-bytes nk k (suc n) b =
     let w = extended nk k n in
     let ih = extended-bytes nk k n b in
     append-below w (next nk (nk + n) w) ih
-    (addRoundKey-bytes (word w (nk + n - nk)) (turned nk (nk + n) (word w (nk + n - 1))) (word-bytes w (nk + n - nk) ih)
-    (turned-bytes nk (nk + n) (word w (nk + n - 1)) (word-bytes w (nk + n - 1) ih)))
+    (addRoundKey-bytes (keyWord w (nk + n - nk)) (turned nk (nk + n) (keyWord w (nk + n - 1))) (word-bytes w (nk + n - nk) ih)
+    (turned-bytes nk (nk + n) (keyWord w (nk + n - 1)) (word-bytes w (nk + n - 1) ih)))
 
 pub schedule-bytes : (nk : ℕ) (k : List ℕ) → Bytes k → Bytes (schedule nk k)
 unfolding schedule

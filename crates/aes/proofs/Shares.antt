@@ -18,7 +18,7 @@ use Rattle.aes.proofs.Sums.{assoc, comm, mul-byte}
 use Rattle.aes.proofs.Entries.{every, at}
 use Rattle.aes.proofs.Columns.{by-doubling, columns-bytes}
 use Rattle.aes.proofs.States.{addRoundKey-bytes}
-use Rattle.aes.proofs.Steps.{length-tabulate, getD-tabulate, Filled, filled-all}
+use Rattle.aes.proofs.Steps.{length-tabulate, getD-tabulate, Tabulated, filled-all}
 use Rattle.aes.proofs.Words.{sum-le}
 
 -- ---- tables
@@ -42,7 +42,7 @@ laid-by p q r t sub f b h =
 
 module _ (p q r t : List ℕ) where
   -- all words are laid
-  pub laid-all : (i : ℕ) (words : List ℕ) → 256 ≤ i → Filled 256 (entry p q r t) i words → words ≡ laid p q r t
+  pub laid-all : (i : ℕ) (words : List ℕ) → 256 ≤ i → Tabulated 256 (entry p q r t) i words → words ≡ laid p q r t
   unfolding laid
   laid-all = filled-all 256 (entry p q r t)
 

@@ -7,7 +7,7 @@ use lib.ListN.{length, getD, drop, length-map}
 use Rattle.octets.specs.Octets.{Bytes}
 use Rattle.octets.proofs.Below.{nil-bytes, cons-below, tail-below, take-below, drop-below}
 use Rattle.aes.specs.Tables.{look, sbox, invSbox}
-use Rattle.aes.specs.Cipher.{subBytes, invSubBytes, tabulate, shift, shiftRows, invShiftRows, addRoundKey, keyOf}
+use Rattle.aes.specs.Cipher.{subBytes, invSubBytes, tabulate, shift, shiftRows, invShiftRows, addRoundKey, roundKey}
 use Rattle.aes.proofs.Sums.{back, xor-byte}
 use Rattle.aes.proofs.Entries.{unsub, resub, sub-byte, invSub-byte}
 
@@ -107,6 +107,6 @@ addRoundKey-bytes [] k b c = b
 addRoundKey-bytes (x ∷ s) [] b c = b
 addRoundKey-bytes (x ∷ s) (y ∷ k) b c = cons-below (xor-byte (b .at 0) (c .at 0)) (addRoundKey-bytes s k (tail-below b) (tail-below c))
 
-pub keyOf-bytes : (w : List ℕ) → Bytes w → (r : ℕ) → Bytes (keyOf w r)
-unfolding keyOf
-keyOf-bytes w b r = take-below 16 (drop (16 * r) w) (drop-below (16 * r) w b)
+pub roundKey-bytes : (w : List ℕ) → Bytes w → (r : ℕ) → Bytes (roundKey w r)
+unfolding roundKey
+roundKey-bytes w b r = take-below 16 (drop (16 * r) w) (drop-below (16 * r) w b)

@@ -33,17 +33,17 @@ getD-tabulate (suc n) f zero h = refl
 getD-tabulate (suc n) f (suc i) h = getD-tabulate n (λ j. f (suc j)) i (omega arith)
 
 -- of n places the first i hold what f gives there
-pub record Filled (n : ℕ) (f : ℕ → ℕ) (i : ℕ) (t : List ℕ) : Type 0 where
+pub record Tabulated (n : ℕ) (f : ℕ → ℕ) (i : ℕ) (t : List ℕ) : Type 0 where
   pub few : i ≤ n
   pub size : length t ≡ n
   pub front : take i t ≡ take i (tabulate n f)
 
 module _ (n : ℕ) (f : ℕ → ℕ) where
-  pub filled-none : (t : List ℕ) → length t ≡ n → Filled n f 0 t
+  pub filled-none : (t : List ℕ) → length t ≡ n → Tabulated n f 0 t
   filled-none t h = record { few = omega arith; size = h; front = refl }
 
   -- a turn of a loop
-  pub filled-more : (i : ℕ) (t : List ℕ) (v : ℕ) → i < n → Filled n f i t → v ≡ f i → Filled n f (i + 1) (set t i v)
+  pub filled-more : (i : ℕ) (t : List ℕ) (v : ℕ) → i < n → Tabulated n f i t → v ≡ f i → Tabulated n f (i + 1) (set t i v)
   filled-more i t v h done e =
       let old = done .size in
       let new : v ≡ getD (tabulate n f) i 0 = e ∙ sym (getD-tabulate n f i h) in
@@ -54,7 +54,7 @@ module _ (n : ℕ) (f : ℕ → ℕ) where
         front = rw (add-one, take-suc-set t i v (omega arith), take-suc (tabulate n f) i 0 within, done .front, new);
       }
 
-  pub filled-all : (i : ℕ) (t : List ℕ) → n ≤ i → Filled n f i t → t ≡ tabulate n f
+  pub filled-all : (i : ℕ) (t : List ℕ) → n ≤ i → Tabulated n f i t → t ≡ tabulate n f
   filled-all i t h done =
       let old = done .size in
       let whole : length (tabulate n f) ≤ i = rw length-tabulate h in

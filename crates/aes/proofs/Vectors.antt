@@ -7,10 +7,10 @@ use Prim.Native.Nat.{ℕ}
 use lib.ListN.{length, getD, replicate}
 use Rattle.aes.specs.Field.{xor, double, bit, mulBy, mul}
 use Rattle.aes.specs.Tables.{look, sbox, roundConstants, roundConstant}
-use Rattle.aes.specs.Cipher.{subBytes, tabulate, shift, shiftRows, row, columns, mixColumns, addRoundKey, keyOf, round, rounds, cipher}
-use Rattle.aes.specs.Expansion.{word, rotWord, turned, next, longer, extended, roundsFor, schedule}
+use Rattle.aes.specs.Cipher.{subBytes, tabulate, shift, shiftRows, row, columns, mixColumns, addRoundKey, roundKey, round, rounds, cipher}
+use Rattle.aes.specs.Expansion.{keyWord, rotWord, turned, next, longerKey, extended, roundsFor, schedule}
 use Rattle.aes.specs.declared.Reply.{Reply}
-use Rattle.aes.specs.Aes.{keyLength, wordsOf, encryption, done, refused, encrypted, decrypted}
+use Rattle.aes.specs.Aes.{keyLength, wordsOf, encryption, doneBlock, refusedBlock, encrypted, decrypted}
 use Rattle.aes.proofs.Keys.{decrypted-encrypted}
 
 -- ---- appendix A: each key, and its last round key
@@ -30,10 +30,10 @@ lasts =
     []
 
 abbrev last : List ℕ → List ℕ
-last k = keyOf (schedule (wordsOf k) k) (roundsFor (wordsOf k))
+last k = roundKey (schedule (wordsOf k) k) (roundsFor (wordsOf k))
 
 pub appendix-A : map last keys ≡ lasts
-unfolding wordsOf schedule roundsFor extended longer next turned rotWord word addRoundKey subBytes roundConstant roundConstants look sbox double xor keyOf
+unfolding wordsOf schedule roundsFor extended longerKey next turned rotWord keyWord addRoundKey subBytes roundConstant roundConstants look sbox double xor roundKey
 appendix-A = refl
 
 -- ---- appendix C: the block 00 11 .. ff under the keys 00 01 .. 0f, 00 01 .. 17 and 00 01 .. 1f
@@ -51,29 +51,29 @@ sealed =
     (0x8e ∷ 0xa2 ∷ 0xb7 ∷ 0xca ∷ 0x51 ∷ 0x67 ∷ 0x45 ∷ 0xbf ∷ 0xea ∷ 0xfc ∷ 0x49 ∷ 0x90 ∷ 0x4b ∷ 0x49 ∷ 0x60 ∷ 0x89 ∷ []) ∷
     []
 
-pub appendix-C : map (λ n. encrypted (rising n) plain) (16 ∷ 24 ∷ 32 ∷ []) ≡ map done sealed
-unfolding encrypted encryption keyLength wordsOf done cipher rounds round shiftRows shift mixColumns columns row mul mulBy bit schedule roundsFor extended longer next turned rotWord word addRoundKey subBytes roundConstant roundConstants look sbox double xor keyOf
+pub appendix-C : map (λ n. encrypted (rising n) plain) (16 ∷ 24 ∷ 32 ∷ []) ≡ map doneBlock sealed
+unfolding encrypted encryption keyLength wordsOf doneBlock cipher rounds round shiftRows shift mixColumns columns row mul mulBy bit schedule roundsFor extended longerKey next turned rotWord keyWord addRoundKey subBytes roundConstant roundConstants look sbox double xor roundKey
 appendix-C = refl
 
 abbrev block : ℕ → List ℕ
 block i = getD sealed i []
 
 -- the way back from what a key made of the block
-undone : (k b : List ℕ) → keyLength (length k) ≡ true → encrypted k plain ≡ done b → decrypted k b ≡ done plain
-unfolding done
+undone : (k b : List ℕ) → keyLength (length k) ≡ true → encrypted k plain ≡ doneBlock b → decrypted k b ≡ doneBlock plain
+unfolding doneBlock
 undone k b t e = ap (λ (r : Reply). decrypted k (r .block)) (sym e) ∙ decrypted-encrypted k plain t refl
 
 pub appendix-C-back :
     decrypted (rising 16) (block 0) ∷ decrypted (rising 24) (block 1) ∷ decrypted (rising 32) (block 2) ∷ []
-    ≡ done plain ∷ done plain ∷ done plain ∷ []
+    ≡ doneBlock plain ∷ doneBlock plain ∷ doneBlock plain ∷ []
 unfolding keyLength
 appendix-C-back =
-    λ j. undone (rising 16) (block 0) refl (ap (λ (rs : List Reply). getD rs 0 refused) appendix-C) j
-    ∷ undone (rising 24) (block 1) refl (ap (λ (rs : List Reply). getD rs 1 refused) appendix-C) j
-    ∷ undone (rising 32) (block 2) refl (ap (λ (rs : List Reply). getD rs 2 refused) appendix-C) j ∷ []
+    λ j. undone (rising 16) (block 0) refl (ap (λ (rs : List Reply). getD rs 0 refusedBlock) appendix-C) j
+    ∷ undone (rising 24) (block 1) refl (ap (λ (rs : List Reply). getD rs 1 refusedBlock) appendix-C) j
+    ∷ undone (rising 32) (block 2) refl (ap (λ (rs : List Reply). getD rs 2 refusedBlock) appendix-C) j ∷ []
 
 -- ---- keys of other lengths
 
-pub others : map (λ n. encrypted (rising n) plain) (0 ∷ 15 ∷ 17 ∷ 23 ∷ 31 ∷ 33 ∷ []) ≡ replicate 6 refused
+pub others : map (λ n. encrypted (rising n) plain) (0 ∷ 15 ∷ 17 ∷ 23 ∷ 31 ∷ 33 ∷ []) ≡ replicate 6 refusedBlock
 unfolding encrypted keyLength
 others = refl

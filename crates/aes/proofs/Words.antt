@@ -15,7 +15,7 @@ use Rattle.octets.proofs.Below.{tail-below}
 use Rattle.octets.proofs.Parts.{length-part, paste-two, paste-whole}
 use Rattle.octets.proofs.Numbers.{length-leBytes, le-nil, le-cons, le-low, le-leBytes, leBytes-le, le-append, leBytes-add}
 use Rattle.aes.specs.Field.{xor}
-use Rattle.aes.specs.Cipher.{addRoundKey, keyOf}
+use Rattle.aes.specs.Cipher.{addRoundKey, roundKey}
 use Rattle.aes.specs.Products.{moved}
 use Rattle.aes.proofs.States.{length-addRoundKey, addRoundKey-bytes}
 
@@ -98,8 +98,8 @@ half s w i at hs hw bs bw =
 pub added : (s w t u : List ℕ) (n : ℕ) → length s ≡ 16 → 16 * n + 16 ≤ length w → Bytes (take 8 (drop 0 s)) → Bytes (take 8 (drop (16 * n) w))
     → t ≡ paste (replicate 16 0) 0 (leBytes 8 (xor (leAt 8 0 s) (leAt 8 (16 * n) w))) 8
     → Bytes (take 8 (drop 8 s)) → Bytes (take 8 (drop (16 * n + 8) w))
-    → u ≡ paste t 8 (leBytes 8 (xor (leAt 8 8 s) (leAt 8 (16 * n + 8) w))) 8 → u ≡ addRoundKey s (keyOf w n)
-unfolding keyOf
+    → u ≡ paste t 8 (leBytes 8 (xor (leAt 8 8 s) (leAt 8 (16 * n + 8) w))) 8 → u ≡ addRoundKey s (roundKey w n)
+unfolding roundKey
 added s w t u n hs hw bx bk et by bl eu =
     let x = take 8 (drop 0 s) in let y = take 8 (drop 8 s) in
     let k = take 8 (drop (16 * n) w) in let l = take 8 (drop (16 * n + 8) w) in

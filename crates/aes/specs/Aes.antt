@@ -5,7 +5,7 @@ use mathlib.Core.List.{List, _++_}
 use Prim.Native.Nat.{ℕ, _+_, _-_, _*_, _/_}
 use lib.Dec.{eqb}
 use lib.ListN.{length, replicate}
-use Rattle.aes.specs.Cipher.{keyOf, cipher, invCipher}
+use Rattle.aes.specs.Cipher.{roundKey, cipher, invCipher}
 use Rattle.aes.specs.Expansion.{roundsFor, schedule}
 use Rattle.aes.specs.declared.Expanded.{Expanded}
 use Rattle.aes.specs.declared.Reply.{Reply}
@@ -23,24 +23,24 @@ wordsOf k = length k / 4
 
 -- a block under the key k (5.1), and the block that it came from (5.3)
 unfoldable pub encryption : List ℕ → List ℕ → List ℕ
-encryption k s = cipher (keyOf (schedule (wordsOf k) k)) (roundsFor (wordsOf k)) s
+encryption k s = cipher (roundKey (schedule (wordsOf k) k)) (roundsFor (wordsOf k)) s
 
 unfoldable pub decryption : List ℕ → List ℕ → List ℕ
-decryption k s = invCipher (keyOf (schedule (wordsOf k) k)) (roundsFor (wordsOf k)) s
+decryption k s = invCipher (roundKey (schedule (wordsOf k) k)) (roundsFor (wordsOf k)) s
 
 -- reply 0 with a block, and reply 8 with zeros
-unfoldable pub done : List ℕ → Reply
-done s = record { answer = 0; block = s }
+unfoldable pub doneBlock : List ℕ → Reply
+doneBlock s = record { answer = 0; block = s }
 
-unfoldable pub refused : Reply
-refused = record { answer = 8; block = replicate 16 0 }
+unfoldable pub refusedBlock : Reply
+refusedBlock = record { answer = 8; block = replicate 16 0 }
 
 -- `encrypt` and `decrypt`
 unfoldable pub encrypted : List ℕ → List ℕ → Reply
-encrypted k s = cond (keyLength (length k)) (done (encryption k s)) refused
+encrypted k s = cond (keyLength (length k)) (doneBlock (encryption k s)) refusedBlock
 
 unfoldable pub decrypted : List ℕ → List ℕ → Reply
-decrypted k s = cond (keyLength (length k)) (done (decryption k s)) refused
+decrypted k s = cond (keyLength (length k)) (doneBlock (decryption k s)) refusedBlock
 
 -- `expand`: the expanded key filled up with zeros to 240 bytes, and its number of rounds; all zero for another key
 unfoldable pub expanded : List ℕ → Expanded
@@ -54,7 +54,7 @@ expanded k =
 
 -- `encrypt_block` and `decrypt_block`: under an expanded key, whatever bytes it holds
 unfoldable pub encryptedBy : Expanded → List ℕ → Reply
-encryptedBy e s = cond (roundCount (e .rounds)) (done (cipher (keyOf (e .bytes)) (e .rounds) s)) refused
+encryptedBy e s = cond (roundCount (e .rounds)) (doneBlock (cipher (roundKey (e .bytes)) (e .rounds) s)) refusedBlock
 
 unfoldable pub decryptedBy : Expanded → List ℕ → Reply
-decryptedBy e s = cond (roundCount (e .rounds)) (done (invCipher (keyOf (e .bytes)) (e .rounds) s)) refused
+decryptedBy e s = cond (roundCount (e .rounds)) (doneBlock (invCipher (roundKey (e .bytes)) (e .rounds) s)) refusedBlock

@@ -55,8 +55,8 @@ addRoundKey (x ∷ s) [] = x ∷ s
 addRoundKey (x ∷ s) (y ∷ k) = xor x y ∷ addRoundKey s k
 
 -- round key r of an expanded key: four words, sixteen bytes (5.1.4)
-unfoldable pub keyOf : List ℕ → ℕ → List ℕ
-keyOf w r = take 16 (drop (16 * r) w)
+unfoldable pub roundKey : List ℕ → ℕ → List ℕ
+roundKey w r = take 16 (drop (16 * r) w)
 
 -- a round (5.1), and a round of the inverse cipher (5.3)
 unfoldable pub round : (ℕ → List ℕ) → ℕ → List ℕ → List ℕ

@@ -9,8 +9,8 @@ use Rattle.aes.specs.Tables.{roundConstant}
 use Rattle.aes.specs.Cipher.{subBytes, addRoundKey}
 
 -- word i
-unfoldable pub word : List ℕ → ℕ → List ℕ
-word w i = take 4 (drop (4 * i) w)
+unfoldable pub keyWord : List ℕ → ℕ → List ℕ
+keyWord w i = take 4 (drop (4 * i) w)
 
 -- a word's first byte put last (5.2, RotWord)
 unfoldable pub rotWord : List ℕ → List ℕ
@@ -25,16 +25,16 @@ turned nk i t =
 
 -- word i, from the words before it (5.2)
 unfoldable pub next : ℕ → ℕ → List ℕ → List ℕ
-next nk i w = addRoundKey (word w (i - nk)) (turned nk i (word w (i - 1)))
+next nk i w = addRoundKey (keyWord w (i - nk)) (turned nk i (keyWord w (i - 1)))
 
 -- the words w, and word i after them
-unfoldable pub longer : ℕ → ℕ → List ℕ → List ℕ
-longer nk i w = w ++ next nk i w
+unfoldable pub longerKey : ℕ → ℕ → List ℕ → List ℕ
+longerKey nk i w = w ++ next nk i w
 
 -- the key, and n words more (5.2)
 unfoldable pub extended : ℕ → List ℕ → ℕ → List ℕ
 extended nk k zero = k
-extended nk k (suc n) = longer nk (nk + n) (extended nk k n)
+extended nk k (suc n) = longerKey nk (nk + n) (extended nk k n)
 
 -- the number of rounds for nk key words: 10, 12 or 14 for 4, 6 or 8 (5, table 3)
 unfoldable pub roundsFor : ℕ → ℕ

@@ -1,4 +1,5 @@
-// Doubling in the field of AES (FIPS 197 4.2): every product that the ciphers need is a sum of doubles.
+// Doubling in the field of AES (FIPS 197 4.2). MixColumns needs the products by 1, 2 and 3, which are sums of a byte and its double;
+// those of InvMixColumns are looked up (`products`).
 ghost use mathlib.Core.Path.{_≡_};
 ghost use Rattle.aes.specs.Field as Field;
 

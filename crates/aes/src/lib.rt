@@ -58,7 +58,7 @@ pub fn expand(key: &[u8]) -> Expanded
 
 // What a block operation answers with a block.
 fn accepted(block: [u8; 16]) -> Reply
-    ensures { λ r. ⌜ r ≡ Aes.done block ⌝ }
+    ensures { λ r. ⌜ r ≡ Aes.doneBlock block ⌝ }
 {
     Reply {
         answer: answers::DONE,
@@ -68,7 +68,7 @@ fn accepted(block: [u8; 16]) -> Reply
 
 // What a refused block operation answers.
 fn refusal() -> Reply
-    ensures { λ r. ⌜ r ≡ Aes.refused ⌝ }
+    ensures { λ r. ⌜ r ≡ Aes.refusedBlock ⌝ }
 {
     Reply {
         answer: answers::KEY_SIZE,

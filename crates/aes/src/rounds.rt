@@ -153,7 +153,7 @@ pub fn inv_mix_columns(shares: &[u32; 256], s: [u8; 16]) -> [u8; 16]
 // AddRoundKey with round key n, eight bytes at once.
 pub fn add_round_key(w: &[u8; 240], n: usize, s: [u8; 16]) -> [u8; 16]
     requires { ⌜ (n ≤ 14) × (length (now w) ≡ 240) ⌝ }
-    ensures { λ r. ⌜ r ≡ Cipher.addRoundKey s (Cipher.keyOf (now (w .entry)) n) ⌝ }
+    ensures { λ r. ⌜ r ≡ Cipher.addRoundKey s (Cipher.roundKey (now (w .entry)) n) ⌝ }
 {
     let mut t = [0u8; 16];
     octets::put_le64(&mut t, 0, eight(&s, 0) ^ eight(w, 16 * n));
@@ -164,7 +164,7 @@ pub fn add_round_key(w: &[u8; 240], n: usize, s: [u8; 16]) -> [u8; 16]
 // Round n of the cipher, before the last.
 fn round(w: &[u8; 240], n: usize, table: &[u8; 256], s: [u8; 16]) -> [u8; 16]
     requires { ⌜ (n ≤ 14) × (length (now w) ≡ 240) × (now table ≡ Tables.sbox) ⌝ }
-    ensures { λ r. ⌜ r ≡ Cipher.round (Cipher.keyOf (now (w .entry))) n s ⌝ }
+    ensures { λ r. ⌜ r ≡ Cipher.round (Cipher.roundKey (now (w .entry))) n s ⌝ }
 {
     add_round_key(w, n, mix_columns(shift_rows(sub_bytes(table, s))))
 }
@@ -178,7 +178,7 @@ fn inv_round(
     s: [u8; 16],
 ) -> [u8; 16]
     requires { ⌜ (n ≤ 14) × (length (now w) ≡ 240) × (now table ≡ Tables.invSbox) × (Products.Shares (now shares)) ⌝ }
-    ensures { λ r. ⌜ r ≡ Cipher.invRound (Cipher.keyOf (now (w .entry))) n s ⌝ }
+    ensures { λ r. ⌜ r ≡ Cipher.invRound (Cipher.roundKey (now (w .entry))) n s ⌝ }
 {
     inv_mix_columns(
         shares,
@@ -189,7 +189,7 @@ fn inv_round(
 // The cipher of `rounds` rounds under the expanded key w (5.1), with the substitution table lent.
 pub fn cipher(w: &[u8; 240], rounds: usize, table: &[u8; 256], block: [u8; 16]) -> [u8; 16]
     requires { ⌜ (0 < rounds) × (rounds ≤ 14) × (length (now w) ≡ 240) × (now table ≡ Tables.sbox) ⌝ }
-    ensures { λ r. ⌜ r ≡ Cipher.cipher (Cipher.keyOf (now (w .entry))) rounds block ⌝ }
+    ensures { λ r. ⌜ r ≡ Cipher.cipher (Cipher.roundKey (now (w .entry))) rounds block ⌝ }
 {
     let mut s = add_round_key(w, 0, block);
     let mut n = 1;
@@ -211,7 +211,7 @@ pub fn inv_cipher(
 ) -> [u8; 16]
     requires { ⌜ (0 < rounds) × (rounds ≤ 14) × (length (now w) ≡ 240) ⌝ }
     requires { ⌜ (now table ≡ Tables.invSbox) × (Products.Shares (now shares)) ⌝ }
-    ensures { λ r. ⌜ r ≡ Cipher.invCipher (Cipher.keyOf (now (w .entry))) rounds block ⌝ }
+    ensures { λ r. ⌜ r ≡ Cipher.invCipher (Cipher.roundKey (now (w .entry))) rounds block ⌝ }
 {
     let mut s = add_round_key(w, rounds, block);
     let mut n = rounds - 1;

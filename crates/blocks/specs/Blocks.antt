@@ -4,7 +4,7 @@ use mathlib.Core.List.{List, [], _++_}
 use Prim.Native.Nat.{ℕ, zero, suc, _*_, _/_, _%_}
 use lib.Dec.{eqb}
 use lib.ListN.{length, take, drop}
-use Rattle.aes.specs.Cipher.{keyOf, cipher, invCipher}
+use Rattle.aes.specs.Cipher.{roundKey, cipher, invCipher}
 use Rattle.aes.specs.declared.Expanded.{Expanded}
 
 -- the lengths of one block, and of whole blocks
@@ -29,7 +29,7 @@ ecb f s = blocks f (length s / 16) s
 
 -- AES on a block under an expanded key, there and back
 unfoldable pub encrypting : Expanded → List ℕ → List ℕ
-encrypting e b = cipher (keyOf (e .bytes)) (e .rounds) b
+encrypting e b = cipher (roundKey (e .bytes)) (e .rounds) b
 
 unfoldable pub decrypting : Expanded → List ℕ → List ℕ
-decrypting e b = invCipher (keyOf (e .bytes)) (e .rounds) b
+decrypting e b = invCipher (roundKey (e .bytes)) (e .rounds) b

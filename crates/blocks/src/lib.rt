@@ -8,7 +8,7 @@ ghost use Prim.Native.Nat.{_+_, _*_, _/_, _%_, _<_, _≤_, min};
 ghost use lib.ListN.{length, take, drop};
 ghost use lib.Seq.{paste};
 ghost use Rattle.aes.specs.Tables.{sbox, invSbox};
-ghost use Rattle.aes.specs.Cipher.{invMixColumns, keyOf, cipher, invCipher};
+ghost use Rattle.aes.specs.Cipher.{invMixColumns, roundKey, cipher, invCipher};
 ghost use Rattle.columns.specs.Columns.{Forward, Inverse};
 ghost use Rattle.blocks.specs.Blocks.{ecb, encrypting, decrypting};
 use aes::Expanded;
@@ -64,7 +64,7 @@ fn decrypt_with(
     requires { ⌜ (0 < rounds) × (rounds ≤ 14) × (length (now w) ≡ 240) × (length (now mixed) ≡ 240) ⌝ }
     requires { ⌜ (now mixed ≡ invMixColumns (now w)) × (now table ≡ invSbox) × Inverse (now words) ⌝ }
     requires { ⌜ (size ≤ 16 * (length (now src) / 16)) × (size ≤ length (now out)) ⌝ }
-    ensures { λ _. ⌜ now (out .exit) ≡ paste (now (out .entry)) 0 (ecb (invCipher (keyOf (now (w .entry))) rounds) (now (src .entry))) size ⌝ }
+    ensures { λ _. ⌜ now (out .exit) ≡ paste (now (out .entry)) 0 (ecb (invCipher (roundKey (now (w .entry))) rounds) (now (src .entry))) size ⌝ }
 {
     let mut i = 0;
     while i < size {
@@ -105,7 +105,7 @@ fn encrypt_with(
     requires { ⌜ (0 < rounds) × (rounds ≤ 14) × (length (now w) ≡ 240) × (length (now filling) ≡ 16) ⌝ }
     requires { ⌜ (now table ≡ sbox) × Forward (now words) ⌝ }
     requires { ⌜ (size % 16 ≡ 0) × (size ≤ length (now contents) + 16) × (at + size ≤ length (now out)) ⌝ }
-    ensures { λ _. ⌜ now (out .exit) ≡ paste (now (out .entry)) at (ecb (cipher (keyOf (now (w .entry))) rounds) (take size (now (contents .entry) ++ now (filling .entry)))) size ⌝ }
+    ensures { λ _. ⌜ now (out .exit) ≡ paste (now (out .entry)) at (ecb (cipher (roundKey (now (w .entry))) rounds) (take size (now (contents .entry) ++ now (filling .entry)))) size ⌝ }
 {
     let mut i = 0;
     while i < size {

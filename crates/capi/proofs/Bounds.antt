@@ -12,14 +12,14 @@ use lib.ListN.{length}
 use Rattle.answers.specs.Rules.{OneOf}
 use Rattle.answers.proofs.Laws.{either}
 use Rattle.descriptor.specs.Info as Info
-use Rattle.descriptor.proofs.Laws.{Admitted, alg-known, sound}
+use Rattle.descriptor.proofs.Laws.{Admitted, alg-known, well-formed}
 use Rattle.sheet.specs.Sheet as Sheet
 use Rattle.sheet.specs.declared.Reply.{Reply}
 use Rattle.sheet.proofs.Fillings.{filling-most}
 use Rattle.sheet.proofs.Laws.{open-answer, open-zero, seal-answer, seal-zero}
 use Rattle.writer.specs.Written as Written
 use Rattle.writer.proofs.Laws.{writable}
-use Rattle.capi.specs.Capi.{Fits}
+use Rattle.capi.specs.Capi.{Crosses}
 
 -- ---- one of a list is at most their sum
 
@@ -41,15 +41,15 @@ ended-size zero size content out most h = h refl
 ended-size (suc n) size content out most h = omega arith
 
 -- the longest stream is that of the largest package with an extra block
-sealed-most : (extra : Bool) (size : ℕ) → size ≤ Sheet.limit → Sheet.sealedSize extra size ≤ 268435480
-unfolding Sheet.sealedSize Sheet.rounded Sheet.limit
+sealed-most : (extra : Bool) (size : ℕ) → size ≤ Sheet.packageLimit → Sheet.sealedSize extra size ≤ 268435480
+unfolding Sheet.sealedSize Sheet.rounded Sheet.packageLimit
 sealed-most extra size h = omega (arith, filling-most extra size)
 
 module _ (info password : List ℕ) where
-  open-size : (stream out : List ℕ) → Sheet.opened info password stream out .reply .size ≤ Sheet.limit
+  open-size : (stream out : List ℕ) → Sheet.opened info password stream out .reply .size ≤ Sheet.packageLimit
   unfolding Sheet.opened
   open-size stream out =
-      ended-size _ _ _ out Sheet.limit (λ h. open-zero info password stream out (open-answer info password stream out ∙ h) .1 .limited)
+      ended-size _ _ _ out Sheet.packageLimit (λ h. open-zero info password stream out (open-answer info password stream out ∙ h) .1 .limited)
 
   seal-size : (pack given : List ℕ) (extra : Bool) (out : List ℕ) → Sheet.sealed info password pack given extra out .reply .size ≤ 268435480
   unfolding Sheet.sealed
@@ -60,7 +60,7 @@ module _ (info password : List ℕ) where
   -- so a word holds the size of a reply
   module _ (r : Reply) (old out : List ℕ) where
     pub open-held : (stream : List ℕ) → Sheet.left r out ≡ Sheet.opened info password stream old → r .size < 2 ^ 48
-    unfolding Sheet.limit
+    unfolding Sheet.packageLimit
     open-held stream e = omega (arith, ap (λ (l : Sheet.Left). l .reply .size) e, open-size stream old)
 
     pub seal-held : (pack given : List ℕ) (extra : Bool) → Sheet.left r out ≡ Sheet.sealed info password pack given extra old → r .size < 2 ^ 48
@@ -91,10 +91,10 @@ alg-small a h =
       ]
     ]
 
-pub described-fits : (info : List ℕ) → Admitted info → Fits (Info.described info)
+pub described-fits : (info : List ℕ) → Admitted info → Crosses (Info.described info)
 unfolding Info.described
 described-fits info h =
-    let s = sound info h in
+    let s = well-formed info h in
     record {
       major = omega (arith, one-within (2 ∷ 3 ∷ 4 ∷ []) (Info.major info) (s .major));
       minor = omega (arith, s .minor);

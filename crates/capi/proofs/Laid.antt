@@ -39,7 +39,7 @@ module _ (d : Descriptor) where
   length-numbers = simp (length-append, length-leBytes)
 
   -- and its fields that are bytes
-  pub fields-laid : (n b₁ b₂ b₃ b₄ : List ℕ) → Capi.Fits d → n ≡ Capi.numberBytes d
+  pub fields-laid : (n b₁ b₂ b₃ b₄ : List ℕ) → Capi.Crosses d → n ≡ Capi.numberBytes d
       → b₁ ≡ paste (replicate 84 0) 0 n 20 → b₂ ≡ paste b₁ 20 (d .salt) 16 → b₃ ≡ paste b₂ 36 (d .verifier) 16
       → b₄ ≡ paste b₃ 52 (d .hash) 32 → b₄ ≡ Capi.descriptorBytes d
   unfolding Capi.descriptorBytes

@@ -33,45 +33,45 @@ pub record Tells (w a s : ℕ) : Type 0 where
   pub answer : w % 65536 ≡ a
   pub size : w / 65536 ≡ s
 
-pub word-tells : (answer size : ℕ) → answer < 65536 → Tells (Capi.word answer size) answer size
-unfolding Capi.word
+pub word-tells : (answer size : ℕ) → answer < 65536 → Tells (Capi.replyWord answer size) answer size
+unfolding Capi.replyWord
 word-tells answer size h = record { answer = omega arith; size = omega arith }
 
 -- an answer by rules with small numbers
 small : (rs : List Rule) → sum (numbers rs) < 65536 → firstOf rs < 65536
 small rs h = omega (arith, one-within (0 ∷ numbers rs) (firstOf rs) (listed rs))
 
-ended-tells : (answer : ℕ) (value out : List ℕ) → answer < 65536 → Tells (Capi.ended answer 0 value out .word) answer 0
-unfolding Capi.ended
+ended-tells : (answer : ℕ) (value out : List ℕ) → answer < 65536 → Tells (Capi.outcomeBy answer 0 value out .word) answer 0
+unfolding Capi.outcomeBy
 ended-tells zero value out h = word-tells 0 0 h
 ended-tells (suc n) value out h = word-tells (suc n) 0 h
 
-pub hash-tells : (message out : List ℕ) → Tells (Capi.hashed message out .word) (Sha1.hashed message .answer) 0
-unfolding Capi.hashed Sha1.hashed Sha1.hashRules
+pub hash-tells : (message out : List ℕ) → Tells (Capi.hashOutcome message out .word) (Sha1.hashed message .answer) 0
+unfolding Capi.hashOutcome Sha1.hashed Sha1.hashRules
 hash-tells message out = ended-tells _ _ out (small (Sha1.hashRules message) (omega arith))
 
 -- a block operation answers 0 or 8
-block-tells : (b : Bool) (s out : List ℕ) → let r = cond b (Aes.done s) Aes.refused in Tells (Capi.block r out .word) (r .answer) 0
-unfolding Capi.block Aes.done Aes.refused
+block-tells : (b : Bool) (s out : List ℕ) → let r = cond b (Aes.doneBlock s) Aes.refusedBlock in Tells (Capi.blockOutcome r out .word) (r .answer) 0
+unfolding Capi.blockOutcome Aes.doneBlock Aes.refusedBlock
 block-tells true s out = ended-tells 0 s out (omega arith)
 block-tells false s out = ended-tells 8 _ out (omega arith)
 
 module _ (key : List ℕ) (low high : ℕ) (out : List ℕ) where
-  pub encrypt-tells : Tells (Capi.encrypted key low high out .word) (Aes.encrypted key (Capi.sixteen low high) .answer) 0
-  unfolding Capi.encrypted Aes.encrypted
+  pub encrypt-tells : Tells (Capi.encryptOutcome key low high out .word) (Aes.encrypted key (Capi.sixteen low high) .answer) 0
+  unfolding Capi.encryptOutcome Aes.encrypted
   encrypt-tells = block-tells (Aes.keyLength (length key)) _ out
 
-  pub decrypt-tells : Tells (Capi.decrypted key low high out .word) (Aes.decrypted key (Capi.sixteen low high) .answer) 0
-  unfolding Capi.decrypted Aes.decrypted
+  pub decrypt-tells : Tells (Capi.decryptOutcome key low high out .word) (Aes.decrypted key (Capi.sixteen low high) .answer) 0
+  unfolding Capi.decryptOutcome Aes.decrypted
   decrypt-tells = block-tells (Aes.keyLength (length key)) _ out
 
-pub parse-tells : (info out : List ℕ) → Tells (Capi.parsed info out .word) (Info.parsed info .answer) 0
-unfolding Capi.parsed Info.parsed Info.infoRules
+pub parse-tells : (info out : List ℕ) → Tells (Capi.parseOutcome info out .word) (Info.parsed info .answer) 0
+unfolding Capi.parseOutcome Info.parsed Info.infoRules
 parse-tells info out = ended-tells _ _ out (small (Info.infoRules info) (omega arith))
 
 module _ (info password : List ℕ) where
-  pub verdict-tells : Tells (Capi.judged info password) (Verdict.judged info password) 0
-  unfolding Capi.judged Verdict.judged Verdict.verdictRules Verdict.passwordRules Info.infoRules
+  pub verdict-tells : Tells (Capi.verdictWord info password) (Verdict.judged info password) 0
+  unfolding Capi.verdictWord Verdict.judged Verdict.verdictRules Verdict.passwordRules Info.infoRules
   verdict-tells = word-tells _ 0 (small (Verdict.verdictRules info password) (omega arith))
 
   module _ (stream out : List ℕ) where
@@ -79,10 +79,10 @@ module _ (info password : List ℕ) where
     unfolding Sheet.openRules Sheet.streamRules Verdict.verdictRules Verdict.passwordRules Info.infoRules
     open-small = rw (open-answer info password stream out) (small (Sheet.openRules info password stream (length out)) (omega arith))
 
-    pub open-tells : let r = Sheet.opened info password stream out .reply in Tells (Capi.opened info password stream out .word) (r .answer) (r .size)
+    pub open-tells : let r = Sheet.opened info password stream out .reply in Tells (Capi.openOutcome info password stream out .word) (r .answer) (r .size)
     open-tells =
         let l = Sheet.opened info password stream out in
-        subst (λ (c : Capi.Left). Tells (c .word) (l .reply .answer) (l .reply .size))
+        subst (λ (c : Capi.Outcome). Tells (c .word) (l .reply .answer) (l .reply .size))
         (open-crossed info password _ (l .reply) out (l .out) refl stream refl) (word-tells _ _ open-small)
 
   module _ (pack : List ℕ) (low high extra : ℕ) (out : List ℕ) where
@@ -98,9 +98,9 @@ module _ (info password : List ℕ) where
         rw (seal-answer info password pack given (Capi.chosen extra) out)
         (small (Sheet.sealRules info password (Capi.chosen extra) (length pack) (length out)) (omega arith))
 
-    pub seal-tells : Tells (Capi.sealed info password pack low high extra out .word) (replied .reply .answer) (replied .reply .size)
+    pub seal-tells : Tells (Capi.sealOutcome info password pack low high extra out .word) (replied .reply .answer) (replied .reply .size)
     seal-tells =
-        subst (λ (c : Capi.Left). Tells (c .word) (replied .reply .answer) (replied .reply .size))
+        subst (λ (c : Capi.Outcome). Tells (c .word) (replied .reply .answer) (replied .reply .size))
         (seal-crossed info password _ (replied .reply) out (replied .out) refl pack given low high extra refl refl) (word-tells _ _ seal-small)
 
 -- a new EncryptionInfo
@@ -116,11 +116,11 @@ module _ (bits : ℕ) (password name : List ℕ) (saltLow saltHigh verifierLow v
       rw (write-answer (Capi.bitCount bits .0) password name _ _ _ out)
       (small (Written.writeRules (Capi.bitCount bits .0) (length password) (length name) (length out)) (omega arith))
 
-  pub write-tells : Tells (Capi.written bits password name saltLow saltHigh verifierLow verifierHigh fillingLow fillingHigh out .word)
+  pub write-tells : Tells (Capi.writeOutcome bits password name saltLow saltHigh verifierLow verifierHigh fillingLow fillingHigh out .word)
       (new .reply .answer) (new .reply .size)
-  unfolding Capi.written
+  unfolding Capi.writeOutcome
   write-tells =
-      subst (λ (c : Capi.Left). Tells (c .word) (new .reply .answer) (new .reply .size))
+      subst (λ (c : Capi.Outcome). Tells (c .word) (new .reply .answer) (new .reply .size))
       (write-crossed _ _ _ _ _ _ _ (new .reply) out (new .out) refl refl) (word-tells _ _ write-small)
 
 -- a key's length in bits, if it is one
@@ -163,7 +163,7 @@ pub record Shows (b : List ℕ) (d : Descriptor) : Type 0 where
   pub verifier : take 16 (drop 36 b) ≡ d .verifier
   pub hash : drop 52 b ≡ d .hash
 
-pub bytes-show : (d : Descriptor) → Capi.Fits d → Shows (Capi.descriptorBytes d) d
+pub bytes-show : (d : Descriptor) → Capi.Crosses d → Shows (Capi.descriptorBytes d) d
 unfolding Capi.descriptorBytes Capi.numberBytes leBytes leAt
 bytes-show d f =
     let parts = append-assoc (d .salt) (d .verifier) (d .hash) in
@@ -196,7 +196,7 @@ shown-once b d e s t = λ i. record {
 }
 
 -- what an accepted parse leaves shows the descriptor
-pub parse-shows : (info out : List ℕ) → Admitted info → Shows (Capi.parsed info out .out) (Info.described info)
-unfolding Capi.parsed Capi.ended
+pub parse-shows : (info out : List ℕ) → Admitted info → Shows (Capi.parseOutcome info out .out) (Info.described info)
+unfolding Capi.parseOutcome Capi.outcomeBy
 parse-shows info out h =
     rw (parsed-answer info ∙ h, parsed-fields info h) (bytes-show (Info.described info) (described-fits info h))

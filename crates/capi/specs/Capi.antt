@@ -20,8 +20,8 @@ use Rattle.writer.specs.Written as Written
 -- ---- how values cross
 
 -- an answer and a size in one number
-unfoldable pub word : ℕ → ℕ → ℕ
-word answer size = answer + 65536 * size
+unfoldable pub replyWord : ℕ → ℕ → ℕ
+replyWord answer size = answer + 65536 * size
 
 -- sixteen bytes of two numbers: the first eight, then the last, each low byte first
 unfoldable pub sixteen : ℕ → ℕ → List ℕ
@@ -54,7 +54,7 @@ unfoldable pub descriptorBytes : Descriptor → List ℕ
 descriptorBytes d = numberBytes d ++ d .salt ++ d .verifier ++ d .hash
 
 -- a descriptor that these bytes hold: no field is too long
-pub record Fits (d : Descriptor) : Type 0 where
+pub record Crosses (d : Descriptor) : Type 0 where
   pub major : d .major < 2 ^ 16
   pub minor : d .minor < 2 ^ 16
   pub alg : d .alg < 2 ^ 32
@@ -68,56 +68,56 @@ pub record Fits (d : Descriptor) : Type 0 where
 -- ---- what a call leaves
 
 -- the number that it returns, and its out parameter
-pub record Left : Type 0 where
+pub record Outcome : Type 0 where
   pub word : ℕ
   pub out : List ℕ
 
-abbrev pub left : ℕ → List ℕ → Left
-left w o = record { word = w; out = o }
+abbrev pub outcome : ℕ → List ℕ → Outcome
+outcome w o = record { word = w; out = o }
 
 -- by its answer: with 0 the size, and what is written; with any other size 0, and the out parameter as it was
-unfoldable pub ended : (answer size : ℕ) (written out : List ℕ) → Left
-ended zero size written out = left (word 0 size) written
-ended (suc n) size written out = left (word (suc n) 0) out
+unfoldable pub outcomeBy : (answer size : ℕ) (value out : List ℕ) → Outcome
+outcomeBy zero size value out = outcome (replyWord 0 size) value
+outcomeBy (suc n) size value out = outcome (replyWord (suc n) 0) out
 
 -- the same for the reply of a block operation, and for what opening, sealing or writing left
-unfoldable pub block : Reply → List ℕ → Left
-block r out = ended (r .answer) 0 (r .block) out
+unfoldable pub blockOutcome : Reply → List ℕ → Outcome
+blockOutcome r out = outcomeBy (r .answer) 0 (r .block) out
 
-unfoldable pub sheet : Sheet.Left → List ℕ → Left
-sheet l out = ended (l .reply .answer) (l .reply .size) (l .out) out
+unfoldable pub sheetOutcome : Sheet.Left → List ℕ → Outcome
+sheetOutcome l out = outcomeBy (l .reply .answer) (l .reply .size) (l .out) out
 
 -- ---- the functions
 
 -- `ropeshadow_sha1`
-unfoldable pub hashed : (message out : List ℕ) → Left
-hashed message out = ended (Sha1.hashed message .answer) 0 (Sha1.hashed message .bytes) out
+unfoldable pub hashOutcome : (message out : List ℕ) → Outcome
+hashOutcome message out = outcomeBy (Sha1.hashed message .answer) 0 (Sha1.hashed message .bytes) out
 
 -- `ropeshadow_aes_encrypt` and `ropeshadow_aes_decrypt`
-unfoldable pub encrypted : (key : List ℕ) (low high : ℕ) (out : List ℕ) → Left
-encrypted key low high out = block (Aes.encrypted key (sixteen low high)) out
+unfoldable pub encryptOutcome : (key : List ℕ) (low high : ℕ) (out : List ℕ) → Outcome
+encryptOutcome key low high out = blockOutcome (Aes.encrypted key (sixteen low high)) out
 
-unfoldable pub decrypted : (key : List ℕ) (low high : ℕ) (out : List ℕ) → Left
-decrypted key low high out = block (Aes.decrypted key (sixteen low high)) out
+unfoldable pub decryptOutcome : (key : List ℕ) (low high : ℕ) (out : List ℕ) → Outcome
+decryptOutcome key low high out = blockOutcome (Aes.decrypted key (sixteen low high)) out
 
 -- `ropeshadow_parse`
-unfoldable pub parsed : (info out : List ℕ) → Left
-parsed info out = ended (Info.parsed info .answer) 0 (descriptorBytes (Info.parsed info .fields)) out
+unfoldable pub parseOutcome : (info out : List ℕ) → Outcome
+parseOutcome info out = outcomeBy (Info.parsed info .answer) 0 (descriptorBytes (Info.parsed info .fields)) out
 
 -- `ropeshadow_verdict`
-unfoldable pub judged : (info password : List ℕ) → ℕ
-judged info password = word (Verdict.judged info password) 0
+unfoldable pub verdictWord : (info password : List ℕ) → ℕ
+verdictWord info password = replyWord (Verdict.judged info password) 0
 
 -- `ropeshadow_open`
-unfoldable pub opened : (info password stream out : List ℕ) → Left
-opened info password stream out = sheet (Sheet.opened info password stream out) out
+unfoldable pub openOutcome : (info password stream out : List ℕ) → Outcome
+openOutcome info password stream out = sheetOutcome (Sheet.opened info password stream out) out
 
 -- `ropeshadow_seal`, the filling in two numbers, the choice of an extra block in one
-unfoldable pub sealed : (info password pack : List ℕ) (low high extra : ℕ) (out : List ℕ) → Left
-sealed info password pack low high extra out = sheet (Sheet.sealed info password pack (sixteen low high) (chosen extra) out) out
+unfoldable pub sealOutcome : (info password pack : List ℕ) (low high extra : ℕ) (out : List ℕ) → Outcome
+sealOutcome info password pack low high extra out = sheetOutcome (Sheet.sealed info password pack (sixteen low high) (chosen extra) out) out
 
 -- `ropeshadow_write_info`, salt, verifier and filling in two numbers each
-unfoldable pub written : (bits : ℕ) (password name : List ℕ) (saltLow saltHigh verifierLow verifierHigh fillingLow fillingHigh : ℕ) (out : List ℕ) → Left
-written bits password name saltLow saltHigh verifierLow verifierHigh fillingLow fillingHigh out =
-    sheet (Written.written (bitCount bits .0) password name (sixteen saltLow saltHigh) (sixteen verifierLow verifierHigh) (twelve fillingLow fillingHigh) out)
+unfoldable pub writeOutcome : (bits : ℕ) (password name : List ℕ) (saltLow saltHigh verifierLow verifierHigh fillingLow fillingHigh : ℕ) (out : List ℕ) → Outcome
+writeOutcome bits password name saltLow saltHigh verifierLow verifierHigh fillingLow fillingHigh out =
+    sheetOutcome (Written.written (bitCount bits .0) password name (sixteen saltLow saltHigh) (sixteen verifierLow verifierHigh) (twelve fillingLow fillingHigh) out)
     out

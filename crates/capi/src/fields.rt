@@ -5,7 +5,7 @@ use descriptor::Descriptor;
 
 // The numbers of a descriptor.
 fn numbers(d: Descriptor) -> [u8; 20]
-    requires { ⌜ Capi.Fits d ⌝ }
+    requires { ⌜ Capi.Crosses d ⌝ }
     ensures { λ r. ⌜ r ≡ Capi.numberBytes d ⌝ }
 {
     let mut b = [0u8; 20];
@@ -20,7 +20,7 @@ fn numbers(d: Descriptor) -> [u8; 20]
 
 // They, and the fields that are bytes.
 pub fn bytes(d: Descriptor) -> [u8; 84]
-    requires { ⌜ Capi.Fits d ⌝ }
+    requires { ⌜ Capi.Crosses d ⌝ }
     ensures { λ r. ⌜ r ≡ Capi.descriptorBytes d ⌝ }
 {
     let n = numbers(d);

@@ -14,7 +14,7 @@
 // anything else lent.
 ghost use mathlib.Core.Path.{_≡_};
 ghost use Rattle.capi.specs.Capi as Capi;
-ghost use Rattle.capi.specs.Capi.{left};
+ghost use Rattle.capi.specs.Capi.{outcome};
 
 mod fields;
 mod numbers;
@@ -28,7 +28,7 @@ use numbers::word;
 // SHA-1 of a message.
 #[no_mangle]
 pub extern "C" fn ropeshadow_sha1(message: &[u8], out: &mut [u8; 20]) -> u64
-    ensures { λ r. ⌜ left r (now (out .exit)) ≡ Capi.hashed (now (message .entry)) (now (out .entry)) ⌝ }
+    ensures { λ r. ⌜ outcome r (now (out .exit)) ≡ Capi.hashOutcome (now (message .entry)) (now (out .entry)) ⌝ }
 {
     let h = sha1::digest(message);
     if h.answer == answers::DONE {
@@ -40,7 +40,7 @@ pub extern "C" fn ropeshadow_sha1(message: &[u8], out: &mut [u8; 20]) -> u64
 
 // The block of a reply, written where its answer is 0.
 fn written(r: Reply, out: &mut [u8; 16]) -> u64
-    ensures { λ w. ⌜ left w (now (out .exit)) ≡ Capi.block r (now (out .entry)) ⌝ }
+    ensures { λ w. ⌜ outcome w (now (out .exit)) ≡ Capi.blockOutcome r (now (out .entry)) ⌝ }
 {
     if r.answer == answers::DONE {
         let block = r.block;
@@ -52,7 +52,7 @@ fn written(r: Reply, out: &mut [u8; 16]) -> u64
 // A block encrypted under a key of 16, 24 or 32 bytes.
 #[no_mangle]
 pub extern "C" fn ropeshadow_aes_encrypt(key: &[u8], low: u64, high: u64, out: &mut [u8; 16]) -> u64
-    ensures { λ r. ⌜ left r (now (out .exit)) ≡ Capi.encrypted (now (key .entry)) low high (now (out .entry)) ⌝ }
+    ensures { λ r. ⌜ outcome r (now (out .exit)) ≡ Capi.encryptOutcome (now (key .entry)) low high (now (out .entry)) ⌝ }
 {
     written(aes::encrypt(key, sixteen(low, high)), out)
 }
@@ -60,7 +60,7 @@ pub extern "C" fn ropeshadow_aes_encrypt(key: &[u8], low: u64, high: u64, out: &
 // A block decrypted under a key of 16, 24 or 32 bytes.
 #[no_mangle]
 pub extern "C" fn ropeshadow_aes_decrypt(key: &[u8], low: u64, high: u64, out: &mut [u8; 16]) -> u64
-    ensures { λ r. ⌜ left r (now (out .exit)) ≡ Capi.decrypted (now (key .entry)) low high (now (out .entry)) ⌝ }
+    ensures { λ r. ⌜ outcome r (now (out .exit)) ≡ Capi.decryptOutcome (now (key .entry)) low high (now (out .entry)) ⌝ }
 {
     written(aes::decrypt(key, sixteen(low, high)), out)
 }
@@ -68,7 +68,7 @@ pub extern "C" fn ropeshadow_aes_decrypt(key: &[u8], low: u64, high: u64, out: &
 // The descriptor of EncryptionInfo.
 #[no_mangle]
 pub extern "C" fn ropeshadow_parse(info: &[u8], out: &mut [u8; 84]) -> u64
-    ensures { λ r. ⌜ left r (now (out .exit)) ≡ Capi.parsed (now (info .entry)) (now (out .entry)) ⌝ }
+    ensures { λ r. ⌜ outcome r (now (out .exit)) ≡ Capi.parseOutcome (now (info .entry)) (now (out .entry)) ⌝ }
 {
     let p = descriptor::parse(info);
     if p.answer == answers::DONE {
@@ -81,7 +81,7 @@ pub extern "C" fn ropeshadow_parse(info: &[u8], out: &mut [u8; 84]) -> u64
 // The verdict on a password.
 #[no_mangle]
 pub extern "C" fn ropeshadow_verdict(info: &[u8], password: &[u16]) -> u64
-    ensures { λ r. ⌜ r ≡ Capi.judged (now (info .entry)) (now (password .entry)) ⌝ }
+    ensures { λ r. ⌜ r ≡ Capi.verdictWord (now (info .entry)) (now (password .entry)) ⌝ }
 {
     word(password::verdict(info, password), 0)
 }
@@ -94,7 +94,7 @@ pub extern "C" fn ropeshadow_open(
     stream: &[u8],
     out: &mut [u8],
 ) -> u64
-    ensures { λ r. ⌜ left r (now (out .exit)) ≡ Capi.opened (now (info .entry)) (now (password .entry)) (now (stream .entry)) (now (out .entry)) ⌝ }
+    ensures { λ r. ⌜ outcome r (now (out .exit)) ≡ Capi.openOutcome (now (info .entry)) (now (password .entry)) (now (stream .entry)) (now (out .entry)) ⌝ }
 {
     let r = sheet::open(info, password, stream, out);
     word(r.answer, r.size)
@@ -111,7 +111,7 @@ pub extern "C" fn ropeshadow_seal(
     extra: u64,
     out: &mut [u8],
 ) -> u64
-    ensures { λ r. ⌜ left r (now (out .exit)) ≡ Capi.sealed (now (info .entry)) (now (password .entry)) (now (contents .entry)) low high extra (now (out .entry)) ⌝ }
+    ensures { λ r. ⌜ outcome r (now (out .exit)) ≡ Capi.sealOutcome (now (info .entry)) (now (password .entry)) (now (contents .entry)) low high extra (now (out .entry)) ⌝ }
 {
     let filling = sixteen(low, high);
     let r = sheet::seal(info, password, contents, filling, extra != 0, out);
@@ -132,7 +132,7 @@ pub extern "C" fn ropeshadow_write_info(
     filling_high: u64,
     out: &mut [u8],
 ) -> u64
-    ensures { λ r. ⌜ left r (now (out .exit)) ≡ Capi.written bits (now (password .entry)) (now (name .entry)) «salt_low» «salt_high» «verifier_low» «verifier_high» «filling_low» «filling_high» (now (out .entry)) ⌝ }
+    ensures { λ r. ⌜ outcome r (now (out .exit)) ≡ Capi.writeOutcome bits (now (password .entry)) (now (name .entry)) «salt_low» «salt_high» «verifier_low» «verifier_high» «filling_low» «filling_high» (now (out .entry)) ⌝ }
 {
     let salt = sixteen(salt_low, salt_high);
     let verifier = sixteen(verifier_low, verifier_high);

@@ -7,7 +7,7 @@ use descriptor::BitCount;
 // An answer and a size in one number, which holds every size below 2^48.
 pub fn word(answer: u16, size: usize) -> u64
     requires { ⌜ size < 2 ^ 48 ⌝ }
-    ensures { λ r. ⌜ r ≡ Capi.word answer size ⌝ }
+    ensures { λ r. ⌜ r ≡ Capi.replyWord answer size ⌝ }
 {
     answer as u64 + 65536 * size as u64
 }

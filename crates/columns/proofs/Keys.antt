@@ -6,9 +6,9 @@ use native.Mathlib.Omega.{arith}
 use lib.ListN.{length, take, drop, replicate}
 use lib.Seq.{paste, paste-zero, take-all}
 use Rattle.octets.proofs.Parts.{paste-on, paste-whole}
-use Rattle.aes.specs.Cipher.{invMixColumns, keyOf}
+use Rattle.aes.specs.Cipher.{invMixColumns, roundKey}
 use Rattle.aes.proofs.Columns.{length-invMixColumns}
-use Rattle.aes.proofs.Equivalent.{keyOf-is, length-keyOf, mixed-key}
+use Rattle.aes.proofs.Equivalent.{roundKey-is, length-roundKey, mixed-key}
 
 module _ (w : List ℕ) (long : length w ≡ 240) where
   -- the first n keys are laid
@@ -18,12 +18,12 @@ module _ (w : List ℕ) (long : length w ≡ 240) where
   pub done-none : Done 0 (replicate 240 0)
   done-none = paste-zero (replicate 240 0) 0 (invMixColumns w)
 
-  pub done-more : (n : ℕ) (m next k : List ℕ) → n < 15 → Done n m → k ≡ invMixColumns (keyOf w n) → next ≡ paste m (16 * n) k 16 → Done (n + 1) next
+  pub done-more : (n : ℕ) (m next k : List ℕ) → n < 15 → Done n m → k ≡ invMixColumns (roundKey w n) → next ≡ paste m (16 * n) k 16 → Done (n + 1) next
   done-more n m next k h done ek en =
       let whole : length (invMixColumns w) ≡ 240 = length-invMixColumns w ∙ long in
-      let size : length k ≡ 16 = ap length ek ∙ length-invMixColumns (keyOf w n) ∙ length-keyOf w n (omega arith) in
+      let size : length k ≡ 16 = ap length ek ∙ length-invMixColumns (roundKey w n) ∙ length-roundKey w n (omega arith) in
       let here : take 16 k ≡ take 16 (drop (16 * n) (invMixColumns w)) =
-      take-all 16 k (omega arith) ∙ ek ∙ sym (mixed-key w n (omega arith)) ∙ keyOf-is (invMixColumns w) n in
+      take-all 16 k (omega arith) ∙ ek ∙ sym (mixed-key w n (omega arith)) ∙ roundKey-is (invMixColumns w) n in
       let on : 16 * n + 16 ≡ 16 * (n + 1) = omega arith in
       en ∙ ap (λ (l : List ℕ). paste l (16 * n) k 16) done
       ∙ paste-on (replicate 240 0) (invMixColumns w) k 0 (16 * n) 16 (16 * n) (omega arith) (omega arith) (omega arith) (omega arith) here

@@ -58,7 +58,7 @@ pub fn cipher(
 ) -> [u8; 16]
     requires { ⌜ (0 < rounds) × (rounds ≤ 14) × (length (now w) ≡ 240) ⌝ }
     requires { ⌜ (now table ≡ Tables.sbox) × Columns.Forward (now words) ⌝ }
-    ensures { λ r. ⌜ r ≡ Cipher.cipher (Cipher.keyOf (now (w .entry))) rounds block ⌝ }
+    ensures { λ r. ⌜ r ≡ Cipher.cipher (Cipher.roundKey (now (w .entry))) rounds block ⌝ }
 {
     let mut s = add_round_key(w, 0, block);
     let mut n = 1;
@@ -81,7 +81,7 @@ pub fn inv_cipher(
 ) -> [u8; 16]
     requires { ⌜ (0 < rounds) × (rounds ≤ 14) × (length (now w) ≡ 240) × (length (now mixed) ≡ 240) ⌝ }
     requires { ⌜ (now mixed ≡ Cipher.invMixColumns (now w)) × (now table ≡ Tables.invSbox) × Columns.Inverse (now words) ⌝ }
-    ensures { λ r. ⌜ r ≡ Cipher.invCipher (Cipher.keyOf (now (w .entry))) rounds block ⌝ }
+    ensures { λ r. ⌜ r ≡ Cipher.invCipher (Cipher.roundKey (now (w .entry))) rounds block ⌝ }
 {
     let mut s = add_round_key(w, rounds, block);
     let mut n = rounds - 1;

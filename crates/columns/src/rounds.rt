@@ -11,7 +11,7 @@ use aes::rounds::joined;
 // Round key n.
 pub fn key(w: &[u8; 240], n: usize) -> [u8; 16]
     requires { ⌜ (n ≤ 14) × (length (now w) ≡ 240) ⌝ }
-    ensures { λ r. ⌜ r ≡ Cipher.keyOf (now (w .entry)) n ⌝ }
+    ensures { λ r. ⌜ r ≡ Cipher.roundKey (now (w .entry)) n ⌝ }
 {
     let mut k = [0u8; 16];
     octets::copy(w, 16 * n, 16, &mut k, 0);
@@ -36,7 +36,7 @@ fn column(words: &[u32; 256], w: &[u8; 240], at: usize, a: u8, b: u8, c: u8, d: 
 // A state substituted and mixed, with round key n added.
 pub fn round(words: &[u32; 256], w: &[u8; 240], n: usize, s: [u8; 16]) -> [u8; 16]
     requires { ⌜ (length (now words) ≡ 256) × (length (now w) ≡ 240) × (n ≤ 14) ⌝ }
-    ensures { λ r. ⌜ ((p q u t : ℕ) (sub : ℕ → ℕ) → Laid p q u t sub (now (words .entry)) → r ≡ Cipher.addRoundKey (Cipher.columns (Cipher.row p q u t) (map sub s)) (Cipher.keyOf (now (w .entry)) n)) ⌝ }
+    ensures { λ r. ⌜ ((p q u t : ℕ) (sub : ℕ → ℕ) → Laid p q u t sub (now (words .entry)) → r ≡ Cipher.addRoundKey (Cipher.columns (Cipher.row p q u t) (map sub s)) (Cipher.roundKey (now (w .entry)) n)) ⌝ }
 {
     joined(
         column(words, w, 16 * n, s[0], s[1], s[2], s[3]),

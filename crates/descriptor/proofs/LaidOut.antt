@@ -17,7 +17,7 @@ use Rattle.answers.specs.Rules.{OneOf}
 use Rattle.answers.proofs.Laws.{none-broken}
 use Rattle.answers.proofs.Rows.{_and_}
 use Rattle.descriptor.specs.Info as stream
-use Rattle.descriptor.specs.LaidOut.{Fields, numbers, front, verifier, laidOut, says}
+use Rattle.descriptor.specs.LaidOut.{Fields, fourBytesEach, front, verifier, laidOut, says}
 use Rattle.descriptor.proofs.Laws.{Admitted, info-numbered}
 
 -- the fields are as long as they have to be, and HeaderSize and SizeExtra tell how long the name and the opaque bytes are
@@ -65,24 +65,24 @@ past x s n m e = rw (← e) (drop-append-add x s m)
 
 -- ---- numbers in four bytes each
 
-pub length-numbers : (ns : List ℕ) → length (numbers ns) ≡ 4 * length ns
-unfolding numbers
+pub length-numbers : (ns : List ℕ) → length (fourBytesEach ns) ≡ 4 * length ns
+unfolding fourBytesEach
 length-numbers [] = refl
 length-numbers (n ∷ ns) = simp (length-append, length-leBytes) (omega (arith, length-numbers ns))
 
-numbers-append : (x y : List ℕ) → numbers (x ++ y) ≡ numbers x ++ numbers y
-unfolding numbers
+numbers-append : (x y : List ℕ) → fourBytesEach (x ++ y) ≡ fourBytesEach x ++ fourBytesEach y
+unfolding fourBytesEach
 numbers-append [] y = refl
-numbers-append (n ∷ x) y = rw (numbers-append x y) (sym (append-assoc (leBytes 4 n) (numbers x) (numbers y)))
+numbers-append (n ∷ x) y = rw (numbers-append x y) (sym (append-assoc (leBytes 4 n) (fourBytesEach x) (fourBytesEach y)))
 
-pub numbers-more : (ns : List ℕ) (i : ℕ) → i < length ns → numbers (take (i + 1) ns) ≡ numbers (take i ns) ++ leBytes 4 (getD ns i 0)
-unfolding numbers
+pub numbers-more : (ns : List ℕ) (i : ℕ) → i < length ns → fourBytesEach (take (i + 1) ns) ≡ fourBytesEach (take i ns) ++ leBytes 4 (getD ns i 0)
+unfolding fourBytesEach
 numbers-more ns i h = rw (add-one, take-suc ns i 0 h) (numbers-append (take i ns) (getD ns i 0 ∷ []) ∙ rw append-nil)
 
-numbers-bytes : (ns : List ℕ) → Bytes (numbers ns)
-unfolding numbers
+numbers-bytes : (ns : List ℕ) → Bytes (fourBytesEach ns)
+unfolding fourBytesEach
 numbers-bytes [] = nil-bytes
-numbers-bytes (n ∷ ns) = append-below (leBytes 4 n) (numbers ns) (leBytes-bytes 4 n) (numbers-bytes ns)
+numbers-bytes (n ∷ ns) = append-below (leBytes 4 n) (fourBytesEach ns) (leBytes-bytes 4 n) (numbers-bytes ns)
 
 -- ---- the stream
 
@@ -91,7 +91,7 @@ module _ (f : Fields) where
   s = laidOut f
 
   length-front : length (front f) ≡ 44
-  unfolding front numbers leBytes
+  unfolding front fourBytesEach leBytes
   length-front = refl
 
   pub laid-bytes : Bytes (f .name) → Bytes (f .opaque) → Bytes (f .salt) → Bytes (f .encryptedVerifier) → Bytes (f .encryptedVerifierHash) → Bytes s
@@ -114,7 +114,7 @@ module _ (f : Fields) where
     pub key : stream.keySize s ≡ f .keySize
 
   pub reads : Held f → Reads
-  unfolding laidOut front numbers leAt leBytes stream.major stream.minor stream.headerSize stream.sizeExtra stream.algId stream.algIdHash stream.keySize
+  unfolding laidOut front fourBytesEach leAt leBytes stream.major stream.minor stream.headerSize stream.sizeExtra stream.algId stream.algIdHash stream.keySize
   reads h =
       record {
         major = le-leBytes 2 (f .major) (h .major);

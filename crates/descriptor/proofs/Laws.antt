@@ -106,7 +106,7 @@ in-bytes n (inr (inl e)) = inr (inl (ap (λ (k : ℕ). k / 8) e))
 in-bytes n (inr (inr (inl e))) = inr (inr (inl (ap (λ (k : ℕ). k / 8) e)))
 in-bytes n (inr (inr (inr e))) = absurd e
 
-pub record Sound (d : Descriptor) : Type 0 where
+pub record WellFormed (d : Descriptor) : Type 0 where
   pub minor : d .minor ≡ 2
   pub major : OneOf (2 ∷ 3 ∷ 4 ∷ []) (d .major)
   pub key : OneOf (16 ∷ 24 ∷ 32 ∷ []) (d .key .0)
@@ -125,9 +125,9 @@ two-to-four (suc (suc (suc zero))) g h = inr (inl refl)
 two-to-four (suc (suc (suc (suc zero)))) g h = inr (inr (inl refl))
 two-to-four (suc (suc (suc (suc (suc n))))) g h = absurd (omega arith)
 
-pub sound : (s : List ℕ) → Admitted s → Sound (stream.described s)
+pub well-formed : (s : List ℕ) → Admitted s → WellFormed (stream.described s)
 unfolding stream.described stream.infoRules stream.badVersion stream.badName stream.saltOf stream.encryptedVerifier stream.encryptedVerifierHash
-sound s h =
+well-formed s h =
     let l : length s ≡ stream.headerSize s + 84 = info-length s h in
     let v = or-false (keeps 2 s h) in
     let m = or-false (v .1) in

@@ -32,16 +32,16 @@ pub record Fields : Type 0 where
   pub encryptedVerifierHash : List ℕ
 
 -- each number in four bytes
-unfoldable pub numbers : List ℕ → List ℕ
-numbers [] = []
-numbers (n ∷ ns) = leBytes 4 n ++ numbers ns
+unfoldable pub fourBytesEach : List ℕ → List ℕ
+fourBytesEach [] = []
+fourBytesEach (n ∷ ns) = leBytes 4 n ++ fourBytesEach ns
 
 -- the 44 bytes before the name
 unfoldable pub front : Fields → List ℕ
 front f =
     leBytes 2 (f .major)
     ++ leBytes 2 (f .minor)
-    ++ numbers (f .flags ∷ f .headerSize
+    ++ fourBytesEach (f .flags ∷ f .headerSize
     ∷ f .headerFlags ∷ f .sizeExtra ∷ f .algId ∷ f .algIdHash ∷ f .keySize ∷ f .providerType ∷ f .reserved1 ∷ f .reserved2 ∷ [])
 
 -- EncryptionVerifier, the bytes after EncryptionHeader

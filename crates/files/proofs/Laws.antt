@@ -7,14 +7,14 @@ use native.Mathlib.Omega.{arith}
 use borrow.Author.Tests.{ltb-false, eqb-true, eqb-false}
 use lib.Dec.{T, eqb}
 use lib.ListN.{length}
-use Rattle.answers.specs.Rules.{firstOf, numbered, AllHold}
+use Rattle.answers.specs.Rules.{firstOf, numbered}
 use Rattle.answers.proofs.Laws.{either, none-broken, then, stop}
 use Rattle.sheet.specs.Frame.{streamSize}
 use Rattle.sheet.specs.Sheet as Sheet
-use Rattle.sheet.specs.Sheet.{left, reply, ended}
+use Rattle.sheet.specs.Sheet.{left, reply}
 use Rattle.sheet.proofs.Lengths.{openable}
 use Rattle.sheet.proofs.Laws.{ended-refused, open-answer, open-zero, open-done}
-use Rattle.files.specs.Files.{File, limit, missing, long, odd, fileRules, units, rules, opened}
+use Rattle.files.specs.Files.{File, filesLimit, long, fileRules, units, rules, filesOpened}
 
 -- what `sheet` opens lies within its output
 module _ (info password stream out : List ℕ) where
@@ -38,17 +38,17 @@ module _ (info password stream : File) where
 
   module _ (out : List ℕ) where
     pub by-files : (firstOf (fileRules info password stream) ≡ 0 → ⊥)
-        → opened info password stream out ≡ left (reply (firstOf (fileRules info password stream)) 0) out
-    unfolding opened rules
+        → filesOpened info password stream out ≡ left (reply (firstOf (fileRules info password stream)) 0) out
+    unfolding filesOpened rules
     by-files h = rw (stop (fileRules info password stream) _ h) (ended-refused _ _ _ out h)
 
     pub by-sheet : firstOf (fileRules info password stream) ≡ 0
-        → opened info password stream out ≡ Sheet.opened (info .bytes) (units (password .bytes)) (stream .bytes) out
-    unfolding opened rules Sheet.opened
+        → filesOpened info password stream out ≡ Sheet.opened (info .bytes) (units (password .bytes)) (stream .bytes) out
+    unfolding filesOpened rules Sheet.opened
     by-sheet z = rw (then (fileRules info password stream) _ files-numbered z)
 
     -- and so does what the files open to
-    pub size-within : opened info password stream out .reply .size ≤ length out
+    pub size-within : filesOpened info password stream out .reply .size ≤ length out
     size-within =
         elim (either (eqb (firstOf (fileRules info password stream)) 0)) [
           | inl e ↦ rw (by-sheet (eqb-true _ _ e)) (sheet-within (info .bytes) (units (password .bytes)) (stream .bytes) out)
@@ -57,5 +57,5 @@ module _ (info password stream : File) where
 
   -- a password file that breaks no rule
   pub password-within : firstOf (fileRules info password stream) ≡ 0 → length (password .bytes) ≤ 65536
-  unfolding fileRules long limit
+  unfolding fileRules long filesLimit
   password-within z = ltb-false _ _ (none-broken (fileRules info password stream) files-numbered .0 z .1 .1 .1 .1 .0)

@@ -20,14 +20,14 @@ file there bytes = record { there = there; bytes = bytes }
 -- ---- what rule 17 tests
 
 -- the most bytes of a file
-unfoldable pub limit : ℕ
-limit = 65536
+unfoldable pub filesLimit : ℕ
+filesLimit = 65536
 
 unfoldable pub missing : File → Bool
 missing f = not (f .there)
 
 unfoldable pub long : File → Bool
-long f = ltb limit (length (f .bytes))
+long f = ltb filesLimit (length (f .bytes))
 
 unfoldable pub odd : File → Bool
 odd f = not (eqb (length (f .bytes) % 2) 0)
@@ -59,8 +59,8 @@ rules info password stream room =
     ++ openRules (info .bytes) (units (password .bytes)) (stream .bytes) room
 
 -- `open`
-unfoldable pub opened : (info password stream : File) (out : List ℕ) → Left
-opened info password stream out =
+unfoldable pub filesOpened : (info password stream : File) (out : List ℕ) → Left
+filesOpened info password stream out =
     ended
     (firstOf (rules info password stream (length out)))
     (streamSize (stream .bytes))

@@ -50,7 +50,7 @@ fn put_units(password: &[u8], d: &mut [u16])
 
 // Opens the files into out.
 pub fn open(there: There, info: &[u8], password: &[u8], stream: &[u8], out: &mut [u8]) -> Reply
-    ensures { λ r. ⌜ left r (now (out .exit)) ≡ Files.opened (file (there .info) (now (info .entry))) (file (there .password) (now (password .entry))) (file (there .stream) (now (stream .entry))) (now (out .entry)) ⌝ }
+    ensures { λ r. ⌜ left r (now (out .exit)) ≡ Files.filesOpened (file (there .info) (now (info .entry))) (file (there .password) (now (password .entry))) (file (there .stream) (now (stream .entry))) (now (out .entry)) ⌝ }
 {
     let a = answer(there, info, password, stream);
     if a != answers::DONE {

@@ -21,7 +21,7 @@ use Rattle.aes.proofs.Keys.{key-lengths}
 use Rattle.descriptor.specs.Info.{infoRules, described, parsed}
 use Rattle.descriptor.specs.declared.Descriptor.{Descriptor}
 use Rattle.descriptor.specs.declared.Parsed.{Parsed}
-use Rattle.descriptor.proofs.Laws.{Admitted, Sound, info-numbered, parsed-answer, parsed-fields}
+use Rattle.descriptor.proofs.Laws.{Admitted, WellFormed, info-numbered, parsed-answer, parsed-fields}
 use Rattle.password.specs.Key as Key
 use Rattle.password.specs.Verdict as Verdict
 use Rattle.password.specs.declared.Unlocked.{Unlocked}
@@ -44,16 +44,16 @@ pub length-keyBytes : (n : ℕ) (salt p : List ℕ) → n ≤ 40 → length (Key
 unfolding Key.keyBytes
 length-keyBytes n salt p h = length-take-le n (Key.material salt p) (omega (arith, length-material salt p))
 
-pub keyOf-is : (d : Descriptor) (p : List ℕ) → Verdict.keyOf d p ≡ Key.keyBytes (d .key .0) (d .salt) p
+pub roundKey-is : (d : Descriptor) (p : List ℕ) → Verdict.keyOf d p ≡ Key.keyBytes (d .key .0) (d .salt) p
 unfolding Verdict.keyOf
-keyOf-is d p = refl
+roundKey-is d p = refl
 
 pub key-bytes : (d : Descriptor) (p : List ℕ) → Bytes (Verdict.keyOf d p)
 unfolding Verdict.keyOf
 key-bytes d p = keyBytes-bytes (d .key .0) (d .salt) p
 
 -- the key of a descriptor within its ranges is as long as it says
-module _ (d : Descriptor) (p : List ℕ) (h : Sound d) where
+module _ (d : Descriptor) (p : List ℕ) (h : WellFormed d) where
   pub key-short : d .key .0 ≤ 32
   key-short = ⊎-elim (λ e. omega arith) (⊎-elim (λ e. omega arith) (⊎-elim (λ e. omega arith) (λ e. absurd e))) (h .key)
 
@@ -68,7 +68,7 @@ module _ (d : Descriptor) (p : List ℕ) (h : Sound d) where
 
 module _ (info p : List ℕ) where
   -- EncryptionInfo is refused
-  pub by-info : (Admitted info → ⊥) → Verdict.unlocked info p ≡ Verdict.refused (firstOf (infoRules info))
+  pub by-info : (Admitted info → ⊥) → Verdict.unlocked info p ≡ Verdict.refusedKey (firstOf (infoRules info))
   unfolding Verdict.unlocked Verdict.judged Verdict.verdictRules
   by-info h =
       let e : firstOf (Verdict.verdictRules info p) ≡ firstOf (infoRules info) = stop (infoRules info) (Verdict.passwordRules (described info) p) h in
@@ -80,14 +80,14 @@ module _ (info p : List ℕ) where
     rest = then (infoRules info) (Verdict.passwordRules (described info) p) (info-numbered info) h
 
     -- the password is too long
-    pub by-length : 255 < length p → Verdict.unlocked info p ≡ Verdict.refused 11
+    pub by-length : 255 < length p → Verdict.unlocked info p ≡ Verdict.refusedKey 11
     unfolding Verdict.unlocked Verdict.passwordRules firstOf
     by-length l = rw rest (simp (lt-ltb _ _ l))
 
     module _ (l : length p ≤ 255) where
       -- it does not match
       pub by-verifier : Verdict.matches (Verdict.keyOf (described info) p) (described info .verifier) (described info .hash) ≡ false
-          → Verdict.unlocked info p ≡ Verdict.refused 12
+          → Verdict.unlocked info p ≡ Verdict.refusedKey 12
       unfolding Verdict.unlocked Verdict.passwordRules firstOf
       by-verifier m = rw rest (simp (le-ltb _ _ l, m))
 
@@ -99,7 +99,7 @@ module _ (info p : List ℕ) where
 
 -- the answer is the verdict, whichever way out
 pub unlocked-answer : (info p : List ℕ) → Verdict.unlocked info p .answer ≡ Verdict.judged info p
-unfolding Verdict.unlocked Verdict.refused
+unfolding Verdict.unlocked Verdict.refusedKey
 unlocked-answer info p =
     elim (either (eqb (Verdict.judged info p) 0)) [
       | inl e ↦ rw e (sym (eqb-true _ _ e))

@@ -41,12 +41,12 @@ unfoldable pub judged : List ℕ → List ℕ → ℕ
 judged info password = firstOf (verdictRules info password)
 
 -- a refusal carries no key: zeros and no rounds
-unfoldable pub refused : ℕ → Unlocked
-refused answer = record { answer = answer; key = record { bytes = replicate 240 0; rounds = 0 } }
+unfoldable pub refusedKey : ℕ → Unlocked
+refusedKey answer = record { answer = answer; key = record { bytes = replicate 240 0; rounds = 0 } }
 
 -- what `unlock` gives: the expanded key where the answer is 0
 unfoldable pub unlocked : List ℕ → List ℕ → Unlocked
 unlocked info password =
     cond (eqb (judged info password) 0)
     (record { answer = 0; key = expanded (keyOf (described info) password) })
-    (refused (judged info password))
+    (refusedKey (judged info password))

@@ -25,7 +25,7 @@ pub struct Unlocked {
 
 // A refusal.
 fn refused(answer: u16) -> Unlocked
-    ensures { λ r. ⌜ r ≡ Verdict.refused answer ⌝ }
+    ensures { λ r. ⌜ r ≡ Verdict.refusedKey answer ⌝ }
 {
     let bytes = [0u8; 240];
     Unlocked {

@@ -7,8 +7,8 @@ use lib.ListN.{length}
 use Rattle.sheet.specs.declared.Reply.{Reply}
 use Rattle.sheet.specs.Sheet.{Left}
 use Rattle.files.proofs.Laws.{size-within}
-use Rattle.program.specs.Run.{Opens}
+use Rattle.program.specs.Run.{OpensFiles}
 
-pub opens-within : {r : Reply} {was is : List ℕ} → Opens r was is → r .size ≤ length was
+pub opens-within : {r : Reply} {was is : List ℕ} → OpensFiles r was is → r .size ≤ length was
 opens-within {r} {was} {is} o =
     omega (arith, ap (λ (l : Left). l .reply .size) (o .left-by), size-within (o .info) (o .password) (o .stream) was)

@@ -6,14 +6,14 @@ use mathlib.Core.List.{List}
 use Prim.Native.Nat.{ℕ}
 use Rattle.sheet.specs.declared.Reply.{Reply}
 use Rattle.sheet.specs.Sheet.{left, reply}
-use Rattle.files.specs.Files.{File, opened}
+use Rattle.files.specs.Files.{File, filesOpened}
 
 -- the reply, and the output from what it was to what it is, are those of some three files
-pub record Opens (r : Reply) (was is : List ℕ) : Type 0 where
+pub record OpensFiles (r : Reply) (was is : List ℕ) : Type 0 where
   pub info : File
   pub password : File
   pub stream : File
-  pub left-by : left r is ≡ opened info password stream was
+  pub left-by : left r is ≡ filesOpened info password stream was
 
 -- a reply once the sheet is to be written: the same; or 17 with size 0 in the place of an answer 0, where it could not be
 abbrev pub Settled : Reply → Reply → Type 0

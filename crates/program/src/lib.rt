@@ -6,13 +6,13 @@
 mod input;
 mod output;
 
-ghost use Rattle.program.specs.Run.{Opens, Settled};
+ghost use Rattle.program.specs.Run.{OpensFiles, Settled};
 use files::There;
 use sheet::Reply;
 
 // Reads the files and opens them into out.
 fn open_files(out: &mut [u8]) -> Reply
-    ensures { λ r. ⌜ Opens r (now (out .entry)) (now (out .exit)) ⌝ }
+    ensures { λ r. ⌜ OpensFiles r (now (out .entry)) (now (out .exit)) ⌝ }
 {
     let mut info = [0u8; input::ROOM];
     let mut password = [0u8; input::ROOM];

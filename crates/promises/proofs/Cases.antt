@@ -15,7 +15,7 @@ use Rattle.descriptor.specs.Info.{infoRules, headerSize, sizeExtra, algId, keyS
 use Rattle.descriptor.proofs.Laws.{parsed-answer, parsed-fields}
 use Rattle.password.specs.Verdict.{judged, keyOf}
 use Rattle.sheet.specs.Frame.{streamSize, streamOf}
-use Rattle.sheet.specs.Sheet.{limit, least, takesExtra, fillingFor, rounded, sealedSize, shortStream, large, streamRules, packRules, opened, sealed}
+use Rattle.sheet.specs.Sheet.{packageLimit, least, takesExtra, fillingFor, rounded, sealedSize, shortStream, large, streamRules, packRules, opened, sealed}
 use Rattle.sheet.specs.Sheet.{sheetKey, sealing, filledWith, sealingOf}
 use Rattle.sheet.proofs.Fillings.{untaken}
 use Rattle.sheet.proofs.Lengths.{sealable}
@@ -30,7 +30,7 @@ Ours = Claim parsed judged opened sealed
 -- ---- sealing and opening
 
 chooses-row : (extra : Bool) (size filling : ℕ) → fillingFor extra size ≡ filling → size ≤ 268435456 → Ours (chooses extra size (8 + (size + filling)) filling)
-unfolding limit sealedSize rounded sealingOf streamOf filledWith sealing sheetKey keyOf described
+unfolding packageLimit sealedSize rounded sealingOf streamOf filledWith sealing sheetKey keyOf described
 chooses-row extra size filling f l info password pack given out v n g r =
     let z : fillingFor extra (length pack) ≡ filling = ap (fillingFor extra) n ∙ f in
     let k = sealable extra (length pack) (length out) .1 (record { limited = omega arith; roomy = rw z (omega arith) }) in
@@ -42,11 +42,11 @@ seals-row size filling t f l extra = chooses-row extra size filling (untaken ext
 
 module _ (size : ℕ) (h : 268435456 < size) where
   pack-large : (extra : Bool) (n room : ℕ) → n ≡ size → firstOf (packRules extra n room) ≡ 14
-  unfolding packRules large limit
+  unfolding packRules large packageLimit
   pack-large extra n room e = broke _ _ (lt-ltb 268435456 n (omega arith))
 
   stream-large : (s : List ℕ) (room : ℕ) → 8 ≤ length s → streamSize s ≡ size → firstOf (streamRules s room) ≡ 14
-  unfolding streamRules shortStream large limit
+  unfolding streamRules shortStream large packageLimit
   stream-large s room l e = held _ _ (le-ltb _ _ l) ∙ broke _ _ (lt-ltb 268435456 (streamSize s) (omega arith))
 
   refuses-row : Ours (refuses size 14)

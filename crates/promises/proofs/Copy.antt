@@ -14,15 +14,15 @@ use Rattle.aes.specs.Aes.{decryption}
 use Rattle.password.specs.Verdict.{judged}
 use Rattle.blocks.specs.Stream.{Undone}
 use Rattle.blocks.specs.Blocks.{whole}
-use Rattle.sheet.specs.Frame.{Pair, Lawful, Admitted, Sound, Inverse, streamSize, streamOf, pairOf}
-use Rattle.sheet.specs.Sheet.{limit, lengths, rounded, sealedSize, openRules, packRules, sealRules, filledWith, Left, ended, gives}
+use Rattle.sheet.specs.Frame.{Pair, Lawful, AdmittedStream, Sound, OneToOne, streamSize, streamOf, pairOf}
+use Rattle.sheet.specs.Sheet.{packageLimit, lengths, rounded, sealedSize, openRules, packRules, sealRules, filledWith, Left, ended, gives}
 use Rattle.sheet.proofs.Frame.{inverse, one-pair, length-streamOf, size-streamOf, length-pack}
 use Rattle.sheet.proofs.Fillings.{allowed-whole, allowed-holds}
 use Rattle.sheet.proofs.Lengths.{Openable, openable, openable-admitted, admitted-openable, Sealable, sealable}
 use Rattle.sheet.proofs.Laws.{ended-answer, open-answer, open-done, open-zero, seal-answer, seal-done, seal-zero, filled-begins}
 use Rattle.promises.specs.Words.{Parser, Judge, Opener, Sealer, Accepted, publishedKey}
-use Rattle.promises.specs.Two.{Demand2}
-use Rattle.promises.specs.Three.{Begins, Demand3}
+use Rattle.promises.specs.Demand2.{Demand2}
+use Rattle.promises.specs.Demand3.{Begins, Demand3}
 use Rattle.promises.proofs.Inverts.{Own, Inverts, exact}
 use Rattle.promises.proofs.Wrong.{OpensBy, other-opening}
 
@@ -43,10 +43,10 @@ unfolding same
 undone = record { long = λ s f. refl; bytes = λ s f. f .bytes; undo = λ s f. refl }
 
 sound : Sound lengths whole same same
-unfolding lengths limit
+unfolding lengths packageLimit
 sound = record { reversible = record { forth = undone; home = undone }; fitting = λ size n h e. allowed-whole size n e; held = lit< tt }
 
-inverted : Inverse lengths same same
+inverted : OneToOne lengths same same
 inverted = inverse lengths whole same same sound
 
 long : (p : Pair) → Lawful lengths p → length (streamOf same p) ≡ 8 + (length (p .pack) + length (p .fill))
@@ -77,7 +77,7 @@ module _ (info password : List ℕ) where
   own : (s out : List ℕ) → Bytes s → Accepted (copies-out info password s out) → Own (streamOf same) s out (pairOf same s)
   own s out b h =
       let k = open-taken s out h in
-      let a : Admitted lengths s = openable-admitted s (length out) b k in
+      let a : AdmittedStream lengths s = openable-admitted s (length out) b k in
       record {
         lawful = inverted .lawful s a;
         again = inverted .stream-again s a;

@@ -9,8 +9,8 @@ use lib.Seq.{take-at}
 use Rattle.answers.specs.Rules.{Rule, firstOf, numbered, OneOf}
 use Rattle.answers.proofs.Laws.{none-broken, first-broken}
 use Rattle.sheet.specs.Sheet.{ended, gives}
-use Rattle.promises.specs.Words.{Answers, written}
-use Rattle.promises.specs.One.{Call}
+use Rattle.promises.specs.Words.{Answers, writtenPart}
+use Rattle.promises.specs.Demand1.{Call}
 
 -- a call keeps demand 1 if its answer is listed and, where that is 0, its content is of its size and has room
 pub ended-call : (numbers : List ℕ) (n size : ℕ) (content out : List ℕ) → OneOf numbers n
@@ -26,5 +26,5 @@ pub by-rules : (rs : List Rule) → T (numbered rs) → Answers rs (firstOf rs)
 by-rules rs t = record { none = none-broken rs t; first = λ m p. first-broken m rs p }
 
 -- what a call wrote that gives a content
-pub wrote : (content out : List ℕ) → written (gives content out) ≡ content
+pub wrote : (content out : List ℕ) → writtenPart (gives content out) ≡ content
 wrote content out = take-at content (replicate (length out - length content) 0) (length content) refl

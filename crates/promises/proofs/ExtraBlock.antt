@@ -9,10 +9,10 @@ use lib.Seq.{take-all}
 use Rattle.octets.specs.Octets.{Bytes}
 use Rattle.octets.proofs.Below.{nil-bytes}
 use Rattle.sheet.specs.Frame.{pair, Lawful}
-use Rattle.sheet.specs.Sheet.{limit, lengths, least, fillingFor}
+use Rattle.sheet.specs.Sheet.{packageLimit, lengths, least, fillingFor}
 use Rattle.sheet.proofs.Fillings.{without, taken, takes, filling-allowed}
 use Rattle.promises.specs.Words.{Judge, Opener, Sealer}
-use Rattle.promises.specs.Three.{Round, Exact, Demand3}
+use Rattle.promises.specs.Demand3.{RoundTrip, Exact, Demand3}
 use Rattle.promises.specs.ExtraBlock.{Takes, Both, ExtraBlock}
 
 module _ (pack given : List ℕ) (t : Takes pack given) where
@@ -24,14 +24,14 @@ module _ (pack given : List ℕ) (t : Takes pack given) where
   all = t .sixteen ∙ sym (taken (length pack) (takes (length pack) .1 (t .some, t .multiple)))
 
   lawful : (extra : Bool) (fill : List ℕ) → Bytes fill → length fill ≡ fillingFor extra (length pack) → Lawful lengths (pair pack fill)
-  unfolding lengths limit
+  unfolding lengths packageLimit
   lawful extra fill b f =
       record { pack-bytes = t .pack-bytes; fill-bytes = b; limited = t .limited; filled = filling-allowed extra (length pack) (length fill) f }
 
   both : (opens : Opener) (seals : Sealer) (info password : List ℕ) → Exact opens seals info password → Both opens seals info password pack given
   both opens seals info password three =
-      let x : Round opens seals info password (pair pack []) = three .a (pair pack []) (lawful false [] nil-bytes none) in
-      let y : Round opens seals info password (pair pack given) = three .a (pair pack given) (lawful true given (t .given-bytes) all) in
+      let x : RoundTrip opens seals info password (pair pack []) = three .a (pair pack []) (lawful false [] nil-bytes none) in
+      let y : RoundTrip opens seals info password (pair pack given) = three .a (pair pack given) (lawful true given (t .given-bytes) all) in
       record {
         asks-without = record { sixteen = t .sixteen; chosen = none; begins = refl };
         asks-with = record { sixteen = t .sixteen; chosen = all; begins = take-all (length given) given (omega arith) };

@@ -11,11 +11,11 @@ use Rattle.descriptor.specs.Info.{infoRules, parsed}
 use Rattle.password.specs.Verdict.{judged, verdictRules}
 use Rattle.sheet.specs.Sheet.{Left, left, reply, openRules, sealRules, packageOf, filledWith, sealingOf, opened, sealed}
 use Rattle.promises.specs.Words.{Parser, Judge, Opener, Sealer, Answers}
-use Rattle.promises.specs.One.{Call, Demand1, openNumbers, sealNumbers}
-use Rattle.promises.specs.Two.{Demand2}
-use Rattle.promises.proofs.One.{demand-1}
+use Rattle.promises.specs.Demand1.{Call, Demand1, openNumbers, sealNumbers}
+use Rattle.promises.specs.Demand2.{Demand2}
+use Rattle.promises.proofs.Demand1.{demand-1}
 use Rattle.promises.specs.NewInfo.{Input, Typed, Writer, rulesFor, infoFor, writeNumbers, NewInfo}
-use Rattle.promises.proofs.Two.{demand-2}
+use Rattle.promises.proofs.Demand2.{demand-2}
 use Rattle.promises.proofs.NewInfo.{writes, new-info}
 
 -- one list of rules gives one answer

@@ -9,8 +9,8 @@ use Rattle.octets.specs.Octets.{Bytes}
 use Rattle.sheet.specs.Frame.{Pair, Lawful}
 use Rattle.sheet.specs.Sheet.{lengths, fillingFor, gives}
 use Rattle.sheet.proofs.Fillings.{untaken}
-use Rattle.promises.specs.Words.{Opener, Sealer, Accepted, written}
-use Rattle.promises.specs.Three.{Begins, Seals, Sealed, Round, Only, Exact}
+use Rattle.promises.specs.Words.{Opener, Sealer, Accepted, writtenPart}
+use Rattle.promises.specs.Demand3.{Begins, Seals, Sealed, RoundTrip, Only, Exact}
 use Rattle.promises.proofs.Ended.{wrote}
 
 -- what a stream that opens tells
@@ -42,7 +42,7 @@ module _ (opens : Opener) (seals : Sealer) (info password : List ℕ) (v : Inver
     into : (s : List ℕ) → v .stream p ≡ s → Seals seals info password p s
     into s e = record { always = λ given extra out g h. v .seals-to p w given extra out g (rw e h) ∙ ap (λ (x : List ℕ). gives x out) e }
 
-    round : Round opens seals info password p
+    round : RoundTrip opens seals info password p
     round =
         record {
           stream = v .stream p;
@@ -56,20 +56,20 @@ module _ (opens : Opener) (seals : Sealer) (info password : List ℕ) (v : Inver
     sealed-is s c =
         let r = v .sealed-room p w (c .given) (c .extra) (c .out) (c .begins) (c .accepted) in
         let e = v .seals-to p w (c .given) (c .extra) (c .out) (c .begins) r in
-        sym (wrote (v .stream p) (c .out)) ∙ sym (ap written e) ∙ c .wrote
+        sym (wrote (v .stream p) (c .out)) ∙ sym (ap writtenPart e) ∙ c .wrote
 
   -- an accepted opening wrote the package of the stream's own pair
   module _ (s out : List ℕ) (b : Bytes s) (h : Accepted (opens info password s out)) where
     mine : Own (v .stream) s out (v .own s)
     mine = v .opened-own s out b h
 
-    came-out : v .own s .pack ≡ written (opens info password s out)
+    came-out : v .own s .pack ≡ writtenPart (opens info password s out)
     came-out =
         let e : opens info password s out ≡ gives (v .own s .pack) out =
         ap (λ (x : List ℕ). opens info password x out) (sym (mine .again)) ∙ v .opens-to (v .own s) (mine .lawful) out (mine .room) in
-        sym (ap written e ∙ wrote (v .own s .pack) out)
+        sym (ap writtenPart e ∙ wrote (v .own s .pack) out)
 
-    only : Only seals info password s (written (opens info password s out))
+    only : Only seals info password s (writtenPart (opens info password s out))
     only =
         record {
           it = v .own s;

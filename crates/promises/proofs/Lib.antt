@@ -1,12 +1,12 @@
--- `One`, `Two`, `Three`: our entries keep the demands (`Ended`: what a call leaves, read field by field; `Inverts`: what demand 3 comes
--- from). `Cases`: every row of the table P1 to P12 holds of them. `NewInfo`: the writer keeps its promise. `ExtraBlock`: whoever keeps
+-- `Demand1` to `Demand3`: our entries keep the demands (`Ended`: what a call leaves, read field by field; `Inverts`: what demand 3
+-- comes from). `Cases`: every row of the table P1 to P12 holds of them. `NewInfo`: the writer keeps its promise. `ExtraBlock`: whoever keeps
 -- demand 3 keeps that of the extra block. `Fixed`: whoever keeps demands 1 and 2, or the writer's promise, is the entry. `Possible`: no
 -- promise holds for want of an instance. `Wrong`: the auditor's openers break a demand; `Copy`: which one lets an unencrypted copy pass.
 mod Ended
 mod Inverts
-pub mod One
-pub mod Two
-pub mod Three
+pub mod Demand1
+pub mod Demand2
+pub mod Demand3
 pub mod Cases
 pub mod Fixed
 pub mod NewInfo

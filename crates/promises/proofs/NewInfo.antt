@@ -16,11 +16,11 @@ use Rattle.writer.specs.Written as Written
 use Rattle.writer.specs.Written.{infoSize, writeRules, verifierField, hashField}
 use Rattle.writer.proofs.Laws.{writable, write-numbered, write-answer, write-done}
 use Rattle.writer.proofs.Back.{Given, newDescriptor, info-admitted, info-described, info-name, info-accepted, length-info}
-use Rattle.promises.specs.Words.{Accepted, written}
-use Rattle.promises.specs.One.{Call}
+use Rattle.promises.specs.Words.{Accepted, writtenPart}
+use Rattle.promises.specs.Demand1.{Call}
 use Rattle.promises.specs.NewInfo.{Input, Typed, Writer, Within, rulesFor, infoFor, writeNumbers, GivesBack, NewInfo}
 use Rattle.promises.proofs.Ended.{ended-call, by-rules}
-use Rattle.promises.proofs.Three.{demand-3}
+use Rattle.promises.proofs.Demand3.{demand-3}
 
 -- `write_info`
 pub writes : Writer
@@ -66,10 +66,10 @@ module _ (i : Input) (out : List ℕ) (t : Typed i) where
     zero-is = sym answered ∙ a
 
     -- what the call wrote is the stream
-    wrote : written (writes i out) ≡ infoFor i
+    wrote : writtenPart (writes i out) ≡ infoFor i
     unfolding writes
     wrote =
-        ap (λ (l : Left). written l) (write-done (i .bits) (i .password) (i .name) (i .salt) (i .verifier) (i .filling) out zero-is)
+        ap (λ (l : Left). writtenPart l) (write-done (i .bits) (i .password) (i .name) (i .salt) (i .verifier) (i .filling) out zero-is)
         ∙ take-at (infoFor i) _ (116 + length (i .name)) (long zero-is)
 
     size : writes i out .reply .size ≡ 116 + length (i .name)
@@ -99,7 +99,7 @@ module _ (i : Input) (out : List ℕ) (t : Typed i) where
           verdict = info-accepted _ _ _ _ _ _ g;
         }
 
-    written-back : GivesBack parsed judged i (written (writes i out))
+    written-back : GivesBack parsed judged i (writtenPart (writes i out))
     written-back = subst⁻¹ (GivesBack parsed judged i) wrote back
 
 pub new-info : NewInfo writes parsed judged opened sealed
@@ -110,5 +110,5 @@ new-info =
       call = call;
       size = size;
       back = written-back;
-      opening = λ i out t a p w. demand-3 .under (written (writes i out)) (i .password) (written-back i out t a .verdict) .a p w;
+      opening = λ i out t a p w. demand-3 .under (writtenPart (writes i out)) (i .password) (written-back i out t a .verdict) .a p w;
     }

@@ -13,10 +13,10 @@ use Rattle.octets.proofs.Numbers.{length-leBytes, le-leBytes}
 use Rattle.answers.specs.Rules.{OneOf, firstOf}
 use Rattle.descriptor.specs.Info as Info
 use Rattle.descriptor.specs.Info.{parsed}
-use Rattle.descriptor.specs.LaidOut.{laidOut, front, verifier, numbers}
+use Rattle.descriptor.specs.LaidOut.{laidOut, front, verifier, fourBytesEach}
 use Rattle.password.specs.Verdict.{judged}
 use Rattle.sheet.specs.Frame.{Pair, Lawful, streamSize}
-use Rattle.sheet.specs.Sheet.{limit, lengths, filledWith}
+use Rattle.sheet.specs.Sheet.{packageLimit, lengths, filledWith}
 use Rattle.sheet.proofs.Fillings.{filling-most}
 use Rattle.sheet.proofs.Laws.{filled-lawful, length-filling, filling-chosen}
 use Rattle.writer.specs.Written.{infoOf}
@@ -67,7 +67,7 @@ told size h =
     }
 
 fills : (extra : Bool) (size : ℕ) → size ≤ 268435456 → Fills extra size
-unfolding limit filledWith
+unfolding packageLimit filledWith
 fills extra size h = filled (long size) (long 16)
   where
     filled : Long size → Long 16 → Fills extra size
@@ -139,7 +139,7 @@ sample header extra alg bits name n =
     })
 
 rows : Instances parsed table
-unfolding sample laidOut front verifier numbers leBytes leAt le parsed firstOf Info.infoRules Info.major Info.minor Info.headerSize Info.sizeExtra Info.algId
+unfolding sample laidOut front verifier fourBytesEach leBytes leAt le parsed firstOf Info.infoRules Info.major Info.minor Info.headerSize Info.sizeExtra Info.algId
     Info.algIdHash Info.keySize Info.saltSize Info.verifierHashSize Info.badVersion Info.badHeaderSize Info.badName Info.suiteOf
 rows =
     (λ extra. (fills extra 0 (lit≤ tt), long 8))  -- P1

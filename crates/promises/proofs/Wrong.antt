@@ -16,17 +16,17 @@ use Rattle.aes.proofs.Keys.{length-encryption, length-decryption}
 use Rattle.password.specs.Verdict.{judged}
 use Rattle.blocks.specs.Blocks.{block, blocks, ecb}
 use Rattle.sheet.specs.Frame.{streamSize}
-use Rattle.sheet.specs.Sheet.{limit, least, fillingFor, rounded, lengthAllowed, sealedSize, Left, packageOf, opened, sealed, gives}
+use Rattle.sheet.specs.Sheet.{packageLimit, least, fillingFor, rounded, lengthAllowed, sealedSize, Left, packageOf, opened, sealed, gives}
 use Rattle.sheet.proofs.Lengths.{Openable, openable, Sealable, sealable}
 use Rattle.sheet.proofs.Laws.{open-done, seal-done}
-use Rattle.promises.specs.Words.{Parser, Judge, Opener, Sealer, Accepted, written, publishedKey}
-use Rattle.promises.specs.One.{Demand1}
-use Rattle.promises.specs.Two.{Demand2}
-use Rattle.promises.specs.Three.{Round, Demand3}
+use Rattle.promises.specs.Words.{Parser, Judge, Opener, Sealer, Accepted, writtenPart, publishedKey}
+use Rattle.promises.specs.Demand1.{Demand1}
+use Rattle.promises.specs.Demand2.{Demand2}
+use Rattle.promises.specs.Demand3.{RoundTrip, Demand3}
 use Rattle.promises.specs.Possible.{Locks, Fills}
 use Rattle.promises.proofs.Ended.{wrote}
-use Rattle.promises.proofs.Two.{demand-2}
-use Rattle.promises.proofs.Three.{demand-3}
+use Rattle.promises.proofs.Demand2.{demand-2}
+use Rattle.promises.proofs.Demand3.{demand-3}
 use Rattle.promises.proofs.Possible.{possible}
 
 abbrev answer-of : Left → ℕ
@@ -49,7 +49,7 @@ module _ (size : ℕ) (h : size ≤ 268435456) where
   unfolding pack
   sized = filled .sized
 
-  round : Round opened sealed (lock .info) [] (filled .it)
+  round : RoundTrip opened sealed (lock .info) [] (filled .it)
   round = demand-3 .under (lock .info) [] (lock .verdict) .a (filled .it) (filled .lawful)
 
   -- and comes out, given room
@@ -80,7 +80,7 @@ module _ (c : List ℕ) (n : length c ≡ 16) where
   single-long = simp (length-append, length-leBytes, n)
 
   single-taken : (info password : List ℕ) → judged info password ≡ 0 → Accepted (opened info password single (replicate 16 0))
-  unfolding limit lengthAllowed rounded fillingFor least
+  unfolding packageLimit lengthAllowed rounded fillingFor least
   single-taken info password v =
       let k : Openable single 16 =
       record {
@@ -93,7 +93,7 @@ module _ (c : List ℕ) (n : length c ≡ 16) where
 
   -- the package that it is
   block-taken : (info password : List ℕ) → judged info password ≡ 0 → Accepted (sealed info password c (replicate 16 0) false (replicate 24 0))
-  unfolding limit sealedSize rounded fillingFor least
+  unfolding packageLimit sealedSize rounded fillingFor least
   block-taken info password v =
       let k : Sealable false (length c) 24 = record { limited = rw n (lit≤ tt); roomy = rw n (lit≤ tt) } in
       ap answer-of (seal-done info password c (replicate 16 0) false (replicate 24 0) v (sealable false (length c) 24 .1 k))
@@ -111,13 +111,13 @@ OnAccepted Q = (info password stream out : List ℕ) → Accepted (opened info p
 -- it opens by this operation in place of decryption
 abbrev pub OpensBy : Opener → ((info password ciphertext : List ℕ) → List ℕ) → Type 0
 OpensBy opens back =
-    OnAccepted (λ info password stream out. written (opens info password stream out) ≡ take (streamSize stream) (back info password (drop 8 stream)))
+    OnAccepted (λ info password stream out. writtenPart (opens info password stream out) ≡ take (streamSize stream) (back info password (drop 8 stream)))
 
 -- it seals by this operation in place of encryption
 abbrev pub SealsBy : Sealer → ((info password plain : List ℕ) → List ℕ) → Type 0
 SealsBy seals there =
     (info password pack given : List ℕ) (extra : Bool) (out : List ℕ) → length given ≡ 16 → Accepted (sealed info password pack given extra out)
-    → written (seals info password pack given extra out)
+    → writtenPart (seals info password pack given extra out)
     ≡ leBytes 8 (length pack) ++ there info password (pack ++ take (fillingFor extra (length pack)) given)
 
 -- what is left of an output does not depend on what it held
@@ -150,7 +150,7 @@ module _ (parses : Parser) (judges : Judge) (opens : Opener) (seals : Sealer) wh
         omega (arith, w (lock .info) [] (round 0 (lit≤ tt) .stream) [] (taken 0 (lit≤ tt) [] (lit≤ tt)))
 
     -- one that always gives the same package
-    pub same-package : (k : List ℕ) → OnAccepted (λ info password stream out. written (opens info password stream out) ≡ k) → ⊥
+    pub same-package : (k : List ℕ) → OnAccepted (λ info password stream out. writtenPart (opens info password stream out) ≡ k) → ⊥
     unfolding left-of
     same-package k w = omega (arith, long 0 (lit≤ tt), long 1 (lit≤ tt))
       where
@@ -158,8 +158,8 @@ module _ (parses : Parser) (judges : Judge) (opens : Opener) (seals : Sealer) wh
         long size h =
             let out : List ℕ = replicate size 0 in
             let r : size ≤ length out = rw (length-replicate {A = ℕ} size 0) (omega arith) in
-            let k-is : written (left-of size h out) ≡ k = w (lock .info) [] (round size h .stream) out (taken size h out r) in
-            ap length (sym k-is ∙ ap written (fixed size h out r) ∙ wrote (pack size h) out) ∙ sized size h
+            let k-is : writtenPart (left-of size h out) ≡ k = w (lock .info) [] (round size h .stream) out (taken size h out r) in
+            ap length (sym k-is ∙ ap writtenPart (fixed size h out r) ∙ wrote (pack size h) out) ∙ sized size h
 
     -- one that tells another size than StreamSize, were it on a single call
     pub invents-size : (info password stream out : List ℕ) → Accepted (opened info password stream out)
@@ -192,9 +192,9 @@ module _ (parses : Parser) (judges : Judge) (opens : Opener) (seals : Sealer) wh
         let f : List ℕ → List ℕ = decryption (publishedKey info password) in
         let plain : List ℕ = f c in
         let whole : length plain ≡ 16 = length-decryption (publishedKey info password) c in
-        let theirs : written (opens info password s out) ≡ take 16 (back info password c) = w info password s out a ∙ rw (size, single-rest c n) in
-        let ours : written (opens info password s out) ≡ plain =
-        ap written (two .opening info password s out (demand-2 .open-answer info password s out .none .0 a))
+        let theirs : writtenPart (opens info password s out) ≡ take 16 (back info password c) = w info password s out a ∙ rw (size, single-rest c n) in
+        let ours : writtenPart (opens info password s out) ≡ plain =
+        ap writtenPart (two .opening info password s out (demand-2 .open-answer info password s out .none .0 a))
         ∙ rw (size, single-rest c n, ecb-one c n f, take-all 16 plain (omega arith)) (take-at plain [] 16 whole) in
         sym theirs ∙ ours
 
@@ -209,10 +209,10 @@ module _ (parses : Parser) (judges : Judge) (opens : Opener) (seals : Sealer) wh
         let a : Accepted (sealed info password b given false out) = block-taken b n info password v in
         let cipher : List ℕ = encryption (publishedKey info password) b in
         let whole : length (leBytes 8 16 ++ cipher) ≡ 24 = simp (length-append, length-leBytes, length-encryption) in
-        let theirs : written (seals info password b given false out) ≡ leBytes 8 16 ++ there info password b =
+        let theirs : writtenPart (seals info password b given false out) ≡ leBytes 8 16 ++ there info password b =
         w info password b given false out refl a ∙ rw (n, append-nil) in
-        let ours : written (seals info password b given false out) ≡ leBytes 8 16 ++ cipher =
-        ap written (two .sealing info password b given false out refl (demand-2 .seal-answer info password b given false out refl .none .0 a))
+        let ours : writtenPart (seals info password b given false out) ≡ leBytes 8 16 ++ cipher =
+        ap writtenPart (two .sealing info password b given false out refl (demand-2 .seal-answer info password b given false out refl .none .0 a))
         ∙ rw (n, append-nil b, ecb-one b n (encryption (publishedKey info password))) (take-at (leBytes 8 16 ++ cipher) [] 24 whole) in
         sym (drop-at (leBytes 8 16) (there info password b) 8 (length-leBytes 8 16))
         ∙ ap (drop 8) (sym theirs ∙ ours)
@@ -241,7 +241,7 @@ module _ (parses : Parser) (judges : Judge) (opens : Opener) (seals : Sealer) wh
 
 module _ (opens : Opener) (seals : Sealer) (three : Demand3 judged opens seals) where
   -- for every size there is a stream that opens to a package of that size
-  again : (size : ℕ) (h : size ≤ 268435456) → Round opens seals (lock .info) [] (filled size h .it)
+  again : (size : ℕ) (h : size ≤ 268435456) → RoundTrip opens seals (lock .info) [] (filled size h .it)
   again size h = three .under (lock .info) [] (lock .verdict) .a (filled size h .it) (filled size h .lawful)
 
   opens-to : (size : ℕ) (h : size ≤ 268435456)
@@ -258,12 +258,12 @@ module _ (opens : Opener) (seals : Sealer) (three : Demand3 judged opens seals) 
 
   -- one that always gives the same package
   pub same-package-opens-one : (k : List ℕ)
-      → ((info password stream out : List ℕ) → Accepted (opens info password stream out) → written (opens info password stream out) ≡ k) → ⊥
+      → ((info password stream out : List ℕ) → Accepted (opens info password stream out) → writtenPart (opens info password stream out) ≡ k) → ⊥
   same-package-opens-one k w = omega (arith, long 0 (lit≤ tt), long 1 (lit≤ tt))
     where
       long : (size : ℕ) → size ≤ 268435456 → length k ≡ size
       long size h =
           let out : List ℕ = replicate size 0 in
-          let k-is : written (opens (lock .info) [] (again size h .stream) out) ≡ k =
+          let k-is : writtenPart (opens (lock .info) [] (again size h .stream) out) ≡ k =
           w (lock .info) [] (again size h .stream) out (ap answer-of (opens-to size h)) in
-          ap length (sym k-is ∙ ap written (opens-to size h) ∙ wrote (pack size h) out) ∙ sized size h
+          ap length (sym k-is ∙ ap writtenPart (opens-to size h) ∙ wrote (pack size h) out) ∙ sized size h

@@ -67,9 +67,9 @@ table =
 -- ---- what a row claims
 
 -- EncryptionInfo is as the facts say
-abbrev pub Fits : List ℕ → List Fact → Type 0
-Fits info [] = Unit
-Fits info (f ∷ fs) = (f .field info ≡ f .value) × Fits info fs
+abbrev pub Agrees : List ℕ → List Fact → Type 0
+Agrees info [] = Unit
+Agrees info (f ∷ fs) = (f .field info ≡ f .value) × Agrees info fs
 
 -- EncryptionInfo breaks no rule before no. n
 abbrev pub Before : ℕ → List ℕ → Type 0
@@ -95,10 +95,10 @@ module _ (parses : Parser) (judges : Judge) (opens : Opener) (sealer : Sealer) w
       → ((pack given : List ℕ) (extra : Bool) (out : List ℕ) → length pack ≡ size → length given ≡ 16
       → sealer info password pack given extra out ≡ left (reply answer 0) out)
       × ((stream out : List ℕ) → 8 ≤ length stream → streamSize stream ≡ size → opens info password stream out ≡ left (reply answer 0) out)
-  Claim (answers facts answer) = (info : List ℕ) → Fits info facts → Before answer info → parses info .answer ≡ answer
-  Claim (passes facts low high) = (info : List ℕ) → Fits info facts → Before low info → Outside low high (parses info .answer)
+  Claim (answers facts answer) = (info : List ℕ) → Agrees info facts → Before answer info → parses info .answer ≡ answer
+  Claim (passes facts low high) = (info : List ℕ) → Agrees info facts → Before low info → Outside low high (parses info .answer)
   Claim (names facts count) =
-      (info : List ℕ) → Fits info facts → Before 3 info
+      (info : List ℕ) → Agrees info facts → Before 3 info
       → Outside 3 5 (parses info .answer) × (parses info .answer ≡ 0 → parses info .fields .name ≡ count)
 
   -- every row's claim

@@ -8,7 +8,7 @@ use lib.ListN.{length}
 use Rattle.octets.specs.Octets.{Bytes}
 use Rattle.sheet.specs.Frame.{pair}
 use Rattle.promises.specs.Words.{Judge, Opener, Sealer}
-use Rattle.promises.specs.Three.{Begins, Round}
+use Rattle.promises.specs.Demand3.{Begins, RoundTrip}
 
 -- a package that takes an extra block, and sixteen bytes to fill it
 pub record Takes (pack given : List ℕ) : Type 0 where
@@ -24,8 +24,8 @@ pub record Takes (pack given : List ℕ) : Type 0 where
 pub record Both (opens : Opener) (seals : Sealer) (info password pack given : List ℕ) : Type 0 where
   pub asks-without : Begins (pair pack []) given false
   pub asks-with : Begins (pair pack given) given true
-  pub without : Round opens seals info password (pair pack [])
-  pub with : Round opens seals info password (pair pack given)
+  pub without : RoundTrip opens seals info password (pair pack [])
+  pub with : RoundTrip opens seals info password (pair pack given)
   pub two : without .stream ≡ with .stream → ⊥
 
 pub record ExtraBlock (judges : Judge) (opens : Opener) (seals : Sealer) : Type 0 where

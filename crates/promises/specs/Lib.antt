@@ -1,7 +1,7 @@
 pub mod Words
-pub mod One
-pub mod Two
-pub mod Three
+pub mod Demand1
+pub mod Demand2
+pub mod Demand3
 pub mod Cases
 pub mod Possible
 pub mod NewInfo

@@ -14,9 +14,9 @@ use Rattle.blocks.specs.Blocks.{ecb}
 use Rattle.sheet.specs.Frame.{Pair, Lawful}
 use Rattle.sheet.specs.Sheet.{Left, lengths}
 use Rattle.writer.specs.Written.{algIdOf, writeRules, infoOf}
-use Rattle.promises.specs.Words.{Parser, Judge, Opener, Sealer, Accepted, Answers, written}
-use Rattle.promises.specs.One.{Call}
-use Rattle.promises.specs.Three.{Round}
+use Rattle.promises.specs.Words.{Parser, Judge, Opener, Sealer, Accepted, Answers, writtenPart}
+use Rattle.promises.specs.Demand1.{Call}
+use Rattle.promises.specs.Demand3.{RoundTrip}
 
 -- ---- what comes in
 
@@ -85,7 +85,7 @@ pub record NewInfo (writes : Writer) (parses : Parser) (judges : Judge) (opens :
   pub call : (i : Input) (out : List ℕ) → Typed i → Call writeNumbers (infoFor i) out (writes i out)
   pub size : (i : Input) (out : List ℕ) → Typed i → Accepted (writes i out) → writes i out .reply .size ≡ 116 + length (i .name)
   -- everything can be read again
-  pub back : (i : Input) (out : List ℕ) → Typed i → Accepted (writes i out) → GivesBack parses judges i (written (writes i out))
+  pub back : (i : Input) (out : List ℕ) → Typed i → Accepted (writes i out) → GivesBack parses judges i (writtenPart (writes i out))
   -- and every package, with every filling of an allowed length, seals under it into a stream that opens to that package
   pub opening : (i : Input) (out : List ℕ) → Typed i → Accepted (writes i out)
-      → (p : Pair) → Lawful lengths p → Round opens seals (written (writes i out)) (i .password) p
+      → (p : Pair) → Lawful lengths p → RoundTrip opens seals (writtenPart (writes i out)) (i .password) p

@@ -10,9 +10,9 @@ use Rattle.descriptor.specs.Info.{keySize}
 use Rattle.sheet.specs.Frame.{Pair, Lawful, streamSize}
 use Rattle.sheet.specs.Sheet.{lengths}
 use Rattle.promises.specs.Words.{Parser, Judge}
-use Rattle.promises.specs.Three.{Begins}
+use Rattle.promises.specs.Demand3.{Begins}
 use Rattle.promises.specs.ExtraBlock.{Takes}
-use Rattle.promises.specs.Cases.{Case, seals, chooses, refuses, answers, passes, names, table, Fits, Before}
+use Rattle.promises.specs.Cases.{Case, seals, chooses, refuses, answers, passes, names, table, Agrees, Before}
 
 -- an EncryptionInfo whose key has so many bits, and which accepts the password
 pub record Locks (judges : Judge) (bits : ℕ) (password : List ℕ) : Type 0 where
@@ -54,9 +54,9 @@ module _ (parses : Parser) where
   Instance (seals size stream filling) = (extra : Bool) → Fills extra size × Long stream
   Instance (chooses extra size stream filling) = Fills extra size × Long stream
   Instance (refuses size answer) = Long size × Told size
-  Instance (answers facts answer) = (info : List ℕ) × Fits info facts × Before answer info
-  Instance (passes facts low high) = (info : List ℕ) × Fits info facts × Before low info
-  Instance (names facts count) = (info : List ℕ) × Fits info facts × Before 3 info × (parses info .answer ≡ 0)
+  Instance (answers facts answer) = (info : List ℕ) × Agrees info facts × Before answer info
+  Instance (passes facts low high) = (info : List ℕ) × Agrees info facts × Before low info
+  Instance (names facts count) = (info : List ℕ) × Agrees info facts × Before 3 info × (parses info .answer ≡ 0)
 
   abbrev pub Instances : List Case → Type 0
   Instances [] = Unit

@@ -37,8 +37,8 @@ abbrev pub Accepted : Left → Type 0
 Accepted l = l .reply .answer ≡ 0
 
 -- what an accepted call wrote: as many bytes of the output as its size says
-abbrev pub written : Left → List ℕ
-written l = take (l .reply .size) (l .out)
+abbrev pub writtenPart : Left → List ℕ
+writtenPart l = take (l .reply .size) (l .out)
 
 -- n is the answer by the rules: 0 exactly where none is broken, and m above 0 exactly where the first one broken is numbered m
 pub record Answers (rules : List Rule) (n : ℕ) : Type 0 where

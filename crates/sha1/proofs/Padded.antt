@@ -78,13 +78,13 @@ ending-law m t₁ t₂ h e₁ e₂ =
     ∙ sym (pad-drop m (64 * (length m / 64)) (omega arith) h)
 
 -- block i of the padded message is the message's own, or one of those that end it
-pub own-block : (m : List ℕ) (i : ℕ) → i < length m / 64 → fips.block m (64 * i) 16 ≡ fips.block (fips.pad m) (64 * i) 16
+pub own-block : (m : List ℕ) (i : ℕ) → i < length m / 64 → fips.blockWords m (64 * i) 16 ≡ fips.blockWords (fips.pad m) (64 * i) 16
 own-block m i h =
     block-same (64 * i) (64 * i) m (fips.pad m)
     (sym (drop-take (64 * i) 64 m) ∙ ap (drop (64 * i)) (pad-take m (64 * i + 64) (omega arith)) ∙ drop-take (64 * i) 64 (fips.pad m))
 
 pub ending-block : (m t : List ℕ) (i : ℕ) → Ends m t → length m / 64 ≤ i → 64 * i < length (fips.pad m)
-    → fips.block t (64 * (i - length m / 64)) 16 ≡ fips.block (fips.pad m) (64 * i) 16
+    → fips.blockWords t (64 * (i - length m / 64)) 16 ≡ fips.blockWords (fips.pad m) (64 * i) 16
 ending-block m t i e low high =
     let w : ℕ = length m / 64 in
     let k : ℕ = 64 * (i - w) in

@@ -14,7 +14,7 @@ use Rattle.sha1.proofs.Padded.{length-pad, pad-drop}
 use Rattle.sha1.proofs.Laws.{length-wordBytes}
 
 -- one block
-pub one-block : (m : List ℕ) → length m ≤ 55 → fips.sha1 m ≡ fips.output (fips.compress fips.start (fips.block (fips.pad m) 0 16))
+pub one-block : (m : List ℕ) → length m ≤ 55 → fips.sha1 m ≡ fips.output (fips.compress fips.start (fips.blockWords (fips.pad m) 0 16))
 unfolding fips.sha1 fips.chain
 one-block m h =
     let e : length (fips.pad m) / 64 ≡ 1 = omega (arith, length-pad m) in
@@ -52,8 +52,8 @@ word-at (suc n) (w ∷ ws) b h =
     rw e (beAt-past 4 (4 * n) (beBytes 4 w) (fips.wordBytes ws) ∙ word-at n ws (tail-below b) (omega arith))
 
 -- so a block of words is those words
-block-words : (n : ℕ) (ws : List ℕ) → Words ws → n ≤ length ws → fips.block (fips.wordBytes ws) 0 n ≡ take n ws
-unfolding fips.block
+block-words : (n : ℕ) (ws : List ℕ) → Words ws → n ≤ length ws → fips.blockWords (fips.wordBytes ws) 0 n ≡ take n ws
+unfolding fips.blockWords
 block-words zero ws b h = refl
 block-words (suc n) ws b h =
     let e : 0 + 4 * n ≡ 4 * n = omega arith in
@@ -94,8 +94,8 @@ length-shortBlock ws h = simp (length-append, length-replicate) (omega arith)
 pub short-words : (ws : List ℕ) → Words ws → length ws ≤ 13 → fips.sha1 (fips.wordBytes ws) ≡ fips.output (fips.compress fips.start (shortBlock ws))
 short-words ws b h =
     let l : length (shortBlock ws) ≡ 16 = length-shortBlock ws h in
-    let e : fips.block (fips.pad (fips.wordBytes ws)) 0 16 ≡ shortBlock ws =
-    ap (λ (p : List ℕ). fips.block p 0 16) (short-pad ws h)
+    let e : fips.blockWords (fips.pad (fips.wordBytes ws)) 0 16 ≡ shortBlock ws =
+    ap (λ (p : List ℕ). fips.blockWords p 0 16) (short-pad ws h)
     ∙ block-words 16 (shortBlock ws) (short-block-words ws b h) (omega arith)
     ∙ take-all 16 (shortBlock ws) (omega arith) in
     one-block (fips.wordBytes ws) (omega (arith, length-wordBytes ws)) ∙ ap (λ (m : List ℕ). fips.output (fips.compress fips.start m)) e

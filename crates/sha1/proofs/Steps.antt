@@ -46,36 +46,36 @@ module _ (k : List ℕ) (e : k ≡ fips.roundWords) (t : ℕ) where
   unfolding fips.constant
   last-word g = rw e (sym (last t _ _ _ _ g))
 
-pub rounds-none : (w : List ℕ) (s : State) → s ≡ fips.rounds w 0 s
-unfolding fips.rounds
+pub rounds-none : (w : List ℕ) (s : State) → s ≡ fips.steps w 0 s
+unfolding fips.steps
 rounds-none w s = refl
 
-pub rounds-more : (w : List ℕ) (t : ℕ) (s : State) → fips.rounds w (t + 1) s ≡ fips.step t (getD w t 0) (fips.rounds w t s)
-unfolding fips.rounds
+pub rounds-more : (w : List ℕ) (t : ℕ) (s : State) → fips.steps w (t + 1) s ≡ fips.step t (getD w t 0) (fips.steps w t s)
+unfolding fips.steps
 rounds-more w t s = rw add-one
 
 -- the state r after `from` rounds goes on to x after `to`: what `span` ensures
 abbrev pub Spanned : List ℕ → ℕ → ℕ → State → State → Type 0
-Spanned w from to r x = (s : State) → r ≡ fips.rounds w from s → x ≡ fips.rounds w to s
+Spanned w from to r x = (s : State) → r ≡ fips.steps w from s → x ≡ fips.steps w to s
 
 -- four spans are all the rounds
 pub rounds-all : (w : List ℕ) {s r₁ r₂ r₃ r₄ : State} → Spanned w 0 20 s r₁ → Spanned w 20 40 r₁ r₂ → Spanned w 40 60 r₂ r₃ → Spanned w 60 80 r₃ r₄
-    → r₄ ≡ fips.rounds w 80 s
+    → r₄ ≡ fips.steps w 80 s
 rounds-all w {s = s} f₁ f₂ f₃ f₄ = f₄ s (f₃ s (f₂ s (f₁ s (rounds-none w s))))
 
 -- the schedule's next word, stored where it belongs
-pub words-more : (m w : List ℕ) (t v : ℕ) → t < length w → take t w ≡ fips.words m t → v ≡ fips.word m t (take t w)
+pub words-more : (m w : List ℕ) (t v : ℕ) → t < length w → take t w ≡ fips.words m t → v ≡ fips.scheduleWord m t (take t w)
     → take (t + 1) (set w t v) ≡ fips.words m (t + 1)
 unfolding fips.words fips.longer
 words-more m w t v h e f = rw (add-one, take-suc-set w t v h, f, e)
 
 -- below sixteen a word is the message's, past that the recurrence reads only words before it
-pub word-early : (m w : List ℕ) (t : ℕ) → t < 16 → getD m t 0 ≡ fips.word m t w
-unfolding fips.word
+pub word-early : (m w : List ℕ) (t : ℕ) → t < 16 → getD m t 0 ≡ fips.scheduleWord m t w
+unfolding fips.scheduleWord
 word-early m w t h = simp (lt-ltb t 16 h)
 
-pub word-later : (m n w : List ℕ) (t : ℕ) → 16 ≤ t → fips.word m t w ≡ fips.word n t (take t w)
-unfolding fips.word
+pub word-later : (m n w : List ℕ) (t : ℕ) → 16 ≤ t → fips.scheduleWord m t w ≡ fips.scheduleWord n t (take t w)
+unfolding fips.scheduleWord
 word-later m n w t h =
     simp (
       le-ltb t 16 h,
@@ -95,6 +95,6 @@ pub words-all : (m : List ℕ) {p q r s w : List ℕ} → p ≡ fips.words m 16 
 words-all m {w = w} e f g h i l = sym (take-all 80 w (omega (arith, l))) ∙ i m (h m (g m (f m e)))
 
 -- all the rounds over the schedule, added to what came in
-pub compressed : (m w : List ℕ) (s : State) {r x : State} → w ≡ fips.words m 80 → r ≡ fips.rounds w 80 s → x ≡ fips.sums s r → x ≡ fips.compress s m
+pub compressed : (m w : List ℕ) (s : State) {r x : State} → w ≡ fips.words m 80 → r ≡ fips.steps w 80 s → x ≡ fips.sums s r → x ≡ fips.compress s m
 unfolding fips.compress
 compressed m w s e f g = rw (g, f, e)

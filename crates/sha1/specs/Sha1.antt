@@ -43,14 +43,14 @@ constant t = ranged t (getD roundWords 0 0) (getD roundWords 1 0) (getD roundWor
 -- ---- the message schedule (6.1.2, step 1)
 
 -- word t of the schedule of the sixteen words m, from the words w before it
-unfoldable pub word : List ℕ → ℕ → List ℕ → ℕ
-word m t w =
+unfoldable pub scheduleWord : List ℕ → ℕ → List ℕ → ℕ
+scheduleWord m t w =
     cond (ltb t 16) (getD m t 0)
     (rotl 1 (bitXor (bitXor (bitXor (getD w (t - 3) 0) (getD w (t - 8) 0)) (getD w (t - 14) 0)) (getD w (t - 16) 0)))
 
 -- the words w before t, and word t
 unfoldable pub longer : List ℕ → ℕ → List ℕ → List ℕ
-longer m t w = w ++ (word m t w ∷ [])
+longer m t w = w ++ (scheduleWord m t w ∷ [])
 
 -- the schedule's first t words
 unfoldable pub words : List ℕ → ℕ → List ℕ
@@ -71,9 +71,9 @@ step t v s =
     }
 
 -- the first t rounds over the schedule w
-unfoldable pub rounds : List ℕ → ℕ → State → State
-rounds w zero s = s
-rounds w (suc t) s = step t (getD w t 0) (rounds w t s)
+unfoldable pub steps : List ℕ → ℕ → State → State
+steps w zero s = s
+steps w (suc t) s = step t (getD w t 0) (steps w t s)
 
 -- the sums of two states, word by word
 unfoldable pub sums : State → State → State
@@ -88,7 +88,7 @@ sums s r =
 
 -- the compression of a block of sixteen words
 unfoldable pub compress : State → List ℕ → State
-compress s m = sums s (rounds (words m 80) 80 s)
+compress s m = sums s (steps (words m 80) 80 s)
 
 -- ---- a whole message
 
@@ -97,14 +97,14 @@ unfoldable pub start : State
 start = record { a = 0x67452301; b = 0xefcdab89; c = 0x98badcfe; d = 0x10325476; e = 0xc3d2e1f0 }
 
 -- the first n words, high byte first, of the block at place o (5.2.1)
-unfoldable pub block : List ℕ → ℕ → ℕ → List ℕ
-block p o zero = []
-block p o (suc n) = block p o n ++ (beAt 4 (o + 4 * n) p ∷ [])
+unfoldable pub blockWords : List ℕ → ℕ → ℕ → List ℕ
+blockWords p o zero = []
+blockWords p o (suc n) = blockWords p o n ++ (beAt 4 (o + 4 * n) p ∷ [])
 
 -- the first n blocks of p, one after the other (6.1.2)
 unfoldable pub chain : List ℕ → ℕ → State → State
 chain p zero s = s
-chain p (suc n) s = compress (chain p n s) (block p (64 * n) 16)
+chain p (suc n) s = compress (chain p n s) (blockWords p (64 * n) 16)
 
 -- the one bit, zeros to eight bytes before a block's end, and the length in bits (5.1.1)
 unfoldable pub pad : List ℕ → List ℕ

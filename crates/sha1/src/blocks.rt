@@ -12,7 +12,7 @@ use crate::start;
 // The sixteen words of the block at `at`.
 fn block(p: &[u8], at: usize) -> [u32; 16]
     requires { ⌜ at + 64 ≤ length (now p) ⌝ }
-    ensures { λ r. ⌜ r ≡ fips.block (now (p .entry)) at 16 ⌝ }
+    ensures { λ r. ⌜ r ≡ fips.blockWords (now (p .entry)) at 16 ⌝ }
 {
     let mut m = [0u32; 16];
     let mut t = 0;
@@ -26,7 +26,7 @@ fn block(p: &[u8], at: usize) -> [u32; 16]
 // The sixteen words of block i of the padded message: of the message itself, or of the blocks that end it.
 fn padded_block(m: &[u8], tail: &[u8], i: usize) -> [u32; 16]
     requires { ⌜ Ends (now m) (now tail) × (64 * i < length (fips.pad (now m))) ⌝ }
-    ensures { λ r. ⌜ r ≡ fips.block (fips.pad (now (m .entry))) (64 * i) 16 ⌝ }
+    ensures { λ r. ⌜ r ≡ fips.blockWords (fips.pad (now (m .entry))) (64 * i) 16 ⌝ }
 {
     let whole = m.len() / 64;
     if i < whole {

@@ -81,7 +81,7 @@ fn step(t: usize, k: u32, v: u32, s: State) -> State
 // The rounds from `from` up to `to`, after those before; k is the word of each of them.
 pub fn span(w: &[u32; 80], k: u32, from: usize, to: usize, s: State) -> State
     requires { ⌜ (from ≤ to) × ((to ≤ 80) × ((t : ℕ) → from ≤ t → t < to → k ≡ fips.constant t)) ⌝ }
-    ensures { λ r. ⌜ ((x : State) → s ≡ fips.rounds (now (w .entry)) from x → r ≡ fips.rounds (now (w .entry)) to x) ⌝ }
+    ensures { λ r. ⌜ ((x : State) → s ≡ fips.steps (now (w .entry)) from x → r ≡ fips.steps (now (w .entry)) to x) ⌝ }
 {
     let mut r = s;
     let mut t = from;
@@ -95,7 +95,7 @@ pub fn span(w: &[u32; 80], k: u32, from: usize, to: usize, s: State) -> State
 // All the rounds.
 pub fn eighty(w: &[u32; 80], k: &[u32; 4], s: State) -> State
     requires { ⌜ now k ≡ fips.roundWords ⌝ }
-    ensures { λ r. ⌜ r ≡ fips.rounds (now (w .entry)) 80 s ⌝ }
+    ensures { λ r. ⌜ r ≡ fips.steps (now (w .entry)) 80 s ⌝ }
 {
     let first = span(w, k[0], 0, 20, s);
     let second = span(w, k[1], 20, 40, first);

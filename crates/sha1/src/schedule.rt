@@ -10,7 +10,7 @@ use crate::rounds::rotl;
 // Word t, from the words before it.
 fn later(w: &[u32; 80], t: usize) -> u32
     requires { ⌜ (16 ≤ t) × (t < 80) ⌝ }
-    ensures { λ r. ⌜ ((m : List ℕ) → r ≡ fips.word m t (now (w .entry))) ⌝ }
+    ensures { λ r. ⌜ ((m : List ℕ) → r ≡ fips.scheduleWord m t (now (w .entry))) ⌝ }
 {
     rotl(1, w[t - 3] ^ w[t - 8] ^ w[t - 14] ^ w[t - 16])
 }

@@ -11,7 +11,7 @@ use Rattle.octets.specs.Octets.{Bytes, leBytes}
 use Rattle.octets.proofs.Below.{append-below, take-below, drop-below, leBytes-bytes}
 use Rattle.octets.proofs.Numbers.{length-leBytes, leAt-here, leBytes-leAt}
 use Rattle.blocks.specs.Stream.{Fit}
-use Rattle.sheet.specs.Frame.{Pair, Lengths, streamSize, streamOf, pairOf, Lawful, Admitted, Sound, Inverse}
+use Rattle.sheet.specs.Frame.{Pair, Lengths, streamSize, streamOf, pairOf, Lawful, AdmittedStream, Sound, OneToOne}
 
 module _ (l : Lengths) (fits : ℕ → Bool) (there back : List ℕ → List ℕ) (o : Sound l fits there back) where
   -- ---- from a pair to its stream
@@ -38,7 +38,7 @@ module _ (l : Lengths) (fits : ℕ → Bool) (there back : List ℕ → List ℕ
         append-below (leBytes 8 (length (p .pack))) (there (p .pack ++ p .fill)) (leBytes-bytes 8 (length (p .pack)))
         (o .reversible .forth .bytes (p .pack ++ p .fill) joined)
 
-    admitted : Admitted l (streamOf there p)
+    admitted : AdmittedStream l (streamOf there p)
     admitted =
         let n : length (streamOf there p) ≡ 8 + (length (p .pack) + length (p .fill)) = length-streamOf in
         let z : streamSize (streamOf there p) ≡ length (p .pack) = size-streamOf in
@@ -64,7 +64,7 @@ module _ (l : Lengths) (fits : ℕ → Bool) (there back : List ℕ → List ℕ
 
   -- ---- from a stream to its pair
 
-  module _ (s : List ℕ) (a : Admitted l s) where
+  module _ (s : List ℕ) (a : AdmittedStream l s) where
     ciphertext : Fit fits (drop 8 s)
     ciphertext =
         let h : streamSize s + (length s - 8 - streamSize s) ≡ length s - 8 = omega (arith, a .enough) in
@@ -106,10 +106,10 @@ module _ (l : Lengths) (fits : ℕ → Bool) (there back : List ℕ → List ℕ
         (ap there split ∙ o .reversible .home .undo (drop 8 s) ciphertext)
         ∙ take-append-drop 8 s
 
-  pub inverse : Inverse l there back
+  pub inverse : OneToOne l there back
   inverse = record { admitted = λ p w. admitted p w; lawful = λ s a. lawful s a; pair-again = λ p w. pair-again p w; stream-again = λ s a. stream-again s a }
 
 -- two lawful pairs with one stream are one pair
-pub one-pair : (l : Lengths) (there back : List ℕ → List ℕ) → Inverse l there back → (p q : Pair) → Lawful l p → Lawful l q
+pub one-pair : (l : Lengths) (there back : List ℕ → List ℕ) → OneToOne l there back → (p q : Pair) → Lawful l p → Lawful l q
     → streamOf there p ≡ streamOf there q → p ≡ q
 one-pair l there back v p q w x e = sym (v .pair-again p w) ∙ ap (pairOf back) e ∙ v .pair-again q x

@@ -15,15 +15,15 @@ use Rattle.password.specs.declared.Unlocked.{Unlocked}
 use Rattle.password.proofs.Laws as password
 use Rattle.blocks.specs.Blocks.{whole, ecb, encrypting, decrypting}
 use Rattle.blocks.proofs.Aes.{aes-ecb-reversible, encrypting-expanded, decrypting-expanded, expanded-rounds}
-use Rattle.sheet.specs.Frame.{Sound, Inverse}
-use Rattle.sheet.specs.Sheet.{limit, lengths, sheetKey, sealing, opening}
+use Rattle.sheet.specs.Frame.{Sound, OneToOne}
+use Rattle.sheet.specs.Sheet.{packageLimit, lengths, sheetKey, sealing, opening}
 use Rattle.sheet.proofs.Frame.{inverse}
 use Rattle.sheet.proofs.Fillings.{allowed-whole}
 
 module _ (info p : List ℕ) (v : judged info p ≡ 0) where
   pub key-fits : keyLength (length (sheetKey info p)) ≡ true
   unfolding sheetKey
-  key-fits = password.key-fits (described info) p (descriptor.sound info (password.admitted info p v))
+  key-fits = password.key-fits (described info) p (descriptor.well-formed info (password.admitted info p v))
 
   pub key-bytes : Bytes (sheetKey info p)
   unfolding sheetKey
@@ -32,7 +32,7 @@ module _ (info p : List ℕ) (v : judged info p ≡ 0) where
   -- ---- demand 3's instance of the frame
 
   pub sound : Sound lengths whole (sealing info p) (opening info p)
-  unfolding lengths limit sealing opening
+  unfolding lengths packageLimit sealing opening
   sound =
       record {
         reversible = aes-ecb-reversible (sheetKey info p) key-bytes;
@@ -40,7 +40,7 @@ module _ (info p : List ℕ) (v : judged info p ≡ 0) where
         held = lit< tt;
       }
 
-  pub inverted : Inverse lengths (sealing info p) (opening info p)
+  pub inverted : OneToOne lengths (sealing info p) (opening info p)
   inverted = inverse lengths whole (sealing info p) (opening info p) sound
 
   -- ---- the key as `unlock` gives it

@@ -17,7 +17,7 @@ use Rattle.password.specs.Verdict.{judged, verdictRules, passwordRules}
 use Rattle.descriptor.specs.Info.{infoRules}
 use Rattle.blocks.proofs.Aes.{length-encrypted, length-decrypted}
 use Rattle.sheet.specs.Frame.{Pair, pair, streamSize, streamOf, pairOf, Lawful}
-use Rattle.sheet.specs.Sheet.{limit, fillingFor, rounded, allowed, lengths, sealedSize, streamRules, packRules, openRules, sealRules, sheetKey, sealing, opening, packageOf, filledWith, sealingOf, left, reply, ended, opened, sealed}
+use Rattle.sheet.specs.Sheet.{packageLimit, fillingFor, rounded, allowed, lengths, sealedSize, streamRules, packRules, openRules, sealRules, sheetKey, sealing, opening, packageOf, filledWith, sealingOf, left, reply, ended, opened, sealed}
 use Rattle.sheet.proofs.Fillings.{filling-most, rounded-whole, filling-allowed, allowed-rounded}
 use Rattle.sheet.proofs.Lengths.{Openable, openable, Sealable, sealable, openable-blocks}
 
@@ -164,7 +164,7 @@ module _ (pack given : List ℕ) (extra : Bool) (h : length given ≡ 16) where
   length-filling = length-take-le (fillingFor extra (length pack)) given (omega (arith, filling-most extra (length pack)))
 
   -- what a call seals is a lawful pair
-  pub filled-lawful : Bytes pack → Bytes given → length pack ≤ limit → Lawful lengths (filledWith pack given extra)
+  pub filled-lawful : Bytes pack → Bytes given → length pack ≤ packageLimit → Lawful lengths (filledWith pack given extra)
   unfolding lengths filledWith
   filled-lawful b c l =
       record {

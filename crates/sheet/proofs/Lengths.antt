@@ -11,8 +11,8 @@ use lib.ListN.{length, drop, length-drop}
 use Rattle.octets.specs.Octets.{Bytes}
 use Rattle.answers.specs.Rules.{firstOf, numbered, testOf}
 use Rattle.answers.proofs.Laws.{none-broken, rule-holds}
-use Rattle.sheet.specs.Frame.{Admitted, streamSize}
-use Rattle.sheet.specs.Sheet.{limit, lengthAllowed, allowed, lengths, sealedSize, shortStream, large, badCiphertext, lacks, streamRules, packRules}
+use Rattle.sheet.specs.Frame.{AdmittedStream, streamSize}
+use Rattle.sheet.specs.Sheet.{packageLimit, lengthAllowed, allowed, lengths, sealedSize, shortStream, large, badCiphertext, lacks, streamRules, packRules}
 use Rattle.sheet.proofs.Fillings.{rounded-whole, allowed-rounded, allowed-holds}
 
 -- ---- the rules of opening
@@ -23,7 +23,7 @@ stream-numbered s room = tt
 
 pub record Openable (s : List ℕ) (room : ℕ) : Type 0 where
   pub headed : 8 ≤ length s
-  pub limited : streamSize s ≤ limit
+  pub limited : streamSize s ≤ packageLimit
   pub long : lengthAllowed (streamSize s) (length s - 8) ≡ true
   pub roomy : streamSize s ≤ room
 
@@ -62,13 +62,13 @@ module _ (s : List ℕ) (room : ℕ) where
   parts : streamSize s ≤ length s - 8 → streamSize s + (length s - 8 - streamSize s) ≡ length s - 8
   parts h = omega arith
 
-  pub openable-admitted : Bytes s → Openable s room → Admitted lengths s
+  pub openable-admitted : Bytes s → Openable s room → AdmittedStream lengths s
   unfolding lengths allowed
   openable-admitted b k =
       let e : streamSize s ≤ length s - 8 = allowed-holds (streamSize s) (length s - 8) (k .long) in
       record { bytes = b; headed = k .headed; limited = k .limited; enough = e; filled = rw (parts e) (k .long) }
 
-  pub admitted-openable : Admitted lengths s → streamSize s ≤ room → Openable s room
+  pub admitted-openable : AdmittedStream lengths s → streamSize s ≤ room → Openable s room
   unfolding lengths allowed
   admitted-openable a r =
       record { headed = a .headed; limited = a .limited; long = rw (parts (a .enough)) at (a .filled); roomy = r }
@@ -80,7 +80,7 @@ unfolding packRules
 pack-numbered extra size room = tt
 
 pub record Sealable (extra : Bool) (size room : ℕ) : Type 0 where
-  pub limited : size ≤ limit
+  pub limited : size ≤ packageLimit
   pub roomy : sealedSize extra size ≤ room
 
 module _ (extra : Bool) (size room : ℕ) where

@@ -9,7 +9,7 @@ use lib.ListN.{length, take}
 use Rattle.octets.specs.Octets.{Bytes}
 use Rattle.password.specs.Verdict.{judged}
 use Rattle.blocks.specs.Blocks.{whole}
-use Rattle.sheet.specs.Frame.{Pair, Lawful, Admitted, streamSize, pairOf}
+use Rattle.sheet.specs.Frame.{Pair, Lawful, AdmittedStream, streamSize, pairOf}
 use Rattle.sheet.specs.Sheet.{lengths, fillingFor, sealedSize, sealing, opening, packageOf, sealingOf, gives, opened, sealed}
 use Rattle.sheet.proofs.Frame.{size-streamOf, one-pair}
 use Rattle.sheet.proofs.Lengths.{openable, openable-admitted, admitted-openable, sealable}
@@ -18,7 +18,7 @@ use Rattle.sheet.proofs.Keyed.{sound, inverted}
 
 module _ (info password : List ℕ) (v : judged info password ≡ 0) where
   module _ (p : Pair) (w : Lawful lengths p) where
-    pub stream-admitted : Admitted lengths (sealingOf info password p)
+    pub stream-admitted : AdmittedStream lengths (sealingOf info password p)
     unfolding sealingOf
     stream-admitted = inverted info password v .admitted p w
 
@@ -55,7 +55,7 @@ module _ (info password : List ℕ) (v : judged info password ≡ 0) where
 
   -- a stream of bytes that opens is the sealing of a lawful pair, whose package is what comes out
   module _ (s out : List ℕ) (b : Bytes s) (h : opened info password s out .reply .answer ≡ 0) where
-    opens-admitted : Admitted lengths s
+    opens-admitted : AdmittedStream lengths s
     opens-admitted = openable-admitted s (length out) b (open-zero info password s out h .1)
 
     pub opened-lawful : Lawful lengths (pairOf (opening info password) s)

@@ -41,7 +41,7 @@ pub record Lawful (l : Lengths) (p : Pair) : Type 0 where
   pub filled : l .allowed (length (p .pack)) (length (p .fill)) ≡ true
 
 -- a stream with a StreamSize within the limit, which leaves an allowed filling
-pub record Admitted (l : Lengths) (s : List ℕ) : Type 0 where
+pub record AdmittedStream (l : Lengths) (s : List ℕ) : Type 0 where
   pub bytes : Bytes s
   pub headed : 8 ≤ length s
   pub limited : streamSize s ≤ l .limit
@@ -55,8 +55,8 @@ pub record Sound (l : Lengths) (fits : ℕ → Bool) (there back : List ℕ → 
   pub held : l .limit < 256 ^ 8
 
 -- lawful pairs and admitted streams are in one-to-one correspondence
-pub record Inverse (l : Lengths) (there back : List ℕ → List ℕ) : Type 0 where
-  pub admitted : (p : Pair) → Lawful l p → Admitted l (streamOf there p)
-  pub lawful : (s : List ℕ) → Admitted l s → Lawful l (pairOf back s)
+pub record OneToOne (l : Lengths) (there back : List ℕ → List ℕ) : Type 0 where
+  pub admitted : (p : Pair) → Lawful l p → AdmittedStream l (streamOf there p)
+  pub lawful : (s : List ℕ) → AdmittedStream l s → Lawful l (pairOf back s)
   pub pair-again : (p : Pair) → Lawful l p → pairOf back (streamOf there p) ≡ p
-  pub stream-again : (s : List ℕ) → Admitted l s → streamOf there (pairOf back s) ≡ s
+  pub stream-again : (s : List ℕ) → AdmittedStream l s → streamOf there (pairOf back s) ≡ s

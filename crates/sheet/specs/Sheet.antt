@@ -16,8 +16,8 @@ use Rattle.sheet.specs.declared.Reply.{Reply}
 -- ---- lengths
 
 -- the most bytes of a package
-unfoldable pub limit : ℕ
-limit = 268435456
+unfoldable pub packageLimit : ℕ
+packageLimit = 268435456
 
 -- the least number of bytes that brings a size to a multiple of 16
 unfoldable pub least : ℕ → ℕ
@@ -44,7 +44,7 @@ unfoldable pub allowed : (size n : ℕ) → Bool
 allowed size n = lengthAllowed size (size + n)
 
 unfoldable pub lengths : Lengths
-lengths = record { limit = limit; allowed = allowed }
+lengths = record { limit = packageLimit; allowed = allowed }
 
 -- how long the stream of a package is
 unfoldable pub sealedSize : (extra : Bool) (size : ℕ) → ℕ
@@ -56,7 +56,7 @@ unfoldable pub shortStream : List ℕ → Bool
 shortStream s = ltb (length s) 8
 
 unfoldable pub large : ℕ → Bool
-large size = ltb limit size
+large size = ltb packageLimit size
 
 -- the bytes after the first eight are not, in number, StreamSize rounded up, nor an extra block more where StreamSize takes one
 unfoldable pub badCiphertext : List ℕ → Bool

@@ -38,7 +38,7 @@ fn takes_extra(size: usize) -> bool
 // A size brought to a multiple of 16, or a whole block past it where that is chosen and the size takes one. Within the limit nothing
 // wraps.
 fn rounded(extra: bool, size: usize) -> usize
-    requires { ⌜ size ≤ Sheet.limit ⌝ }
+    requires { ⌜ size ≤ Sheet.packageLimit ⌝ }
     ensures { λ r. ⌜ r ≡ Sheet.rounded extra size ⌝ }
 {
     if extra {

@@ -28,28 +28,28 @@ use Rattle.writer.proofs.Laws.{newKey, writable, hash-filled, length-ha
 
 -- the first i numbers, in 40 bytes
 pub record Put (ns b : List ℕ) (i : ℕ) : Type 0 where
-  pub filled : (m : ℕ) → 4 * i + m ≡ 40 → Filled (LaidOut.numbers (take i ns)) b (4 * i) m
+  pub filled : (m : ℕ) → 4 * i + m ≡ 40 → Filled (LaidOut.fourBytesEach (take i ns)) b (4 * i) m
 
 pub put-none : (ns : List ℕ) → Put ns (replicate 40 0) 0
-unfolding LaidOut.numbers
+unfolding LaidOut.fourBytesEach
 put-none ns = record { filled = λ m e. none (replicate 40 0) m (omega (arith, e)) }
 
 pub put-more : (ns b d : List ℕ) (i : ℕ) → length ns ≡ 10 → i < 10 → Put ns b i → d ≡ paste b (4 * i) (leBytes 4 (getD ns i 0)) 4 → Put ns d (i + 1)
 put-more ns b d i l h p e = record { filled = next }
   where
-    next : (m : ℕ) → 4 * (i + 1) + m ≡ 40 → Filled (LaidOut.numbers (take (i + 1) ns)) d (4 * (i + 1)) m
+    next : (m : ℕ) → 4 * (i + 1) + m ≡ 40 → Filled (LaidOut.fourBytesEach (take (i + 1) ns)) d (4 * (i + 1)) m
     next m q =
         let n : 4 * (i + 1) ≡ 4 * i + 4 = omega arith in
         rw (numbers-more ns i (omega arith), n) (more-le (4 * i) 4 m (getD ns i 0) d (p .filled (4 + m) (omega arith)) e)
 
-pub put-all : (ns b : List ℕ) (i : ℕ) → length ns ≡ 10 → i ≡ 10 → Put ns b i → b ≡ LaidOut.numbers ns
+pub put-all : (ns b : List ℕ) (i : ℕ) → length ns ≡ 10 → i ≡ 10 → Put ns b i → b ≡ LaidOut.fourBytesEach ns
 put-all ns b i l e p =
-    let k : Filled (LaidOut.numbers (take i ns)) b (4 * i) 0 = p .filled 0 (omega arith) in
-    whole k ∙ ap LaidOut.numbers (take-all i ns (omega arith))
+    let k : Filled (LaidOut.fourBytesEach (take i ns)) b (4 * i) 0 = p .filled 0 (omega arith) in
+    whole k ∙ ap LaidOut.fourBytesEach (take-all i ns (omega arith))
 
 -- the version, and the ten numbers after it
 pub front-laid : (bits n alg : ℕ) (k name salt v filling rest b₁ b₂ b₃ : List ℕ) → length name ≡ n → alg ≡ Written.algIdOf bits
-    → rest ≡ LaidOut.numbers (0x24 ∷ (32 + n) ∷ 0x24 ∷ 0 ∷ alg ∷ 0x8004 ∷ bits ∷ 24 ∷ 0 ∷ 0 ∷ [])
+    → rest ≡ LaidOut.fourBytesEach (0x24 ∷ (32 + n) ∷ 0x24 ∷ 0 ∷ alg ∷ 0x8004 ∷ bits ∷ 24 ∷ 0 ∷ 0 ∷ [])
     → b₁ ≡ paste (replicate 44 0) 0 (leBytes 2 3) 2 → b₂ ≡ paste b₁ 2 (leBytes 2 2) 2 → b₃ ≡ paste b₂ 4 rest 40
     → b₃ ≡ LaidOut.front (Written.newFields bits k name salt v filling)
 unfolding LaidOut.front Written.newFields

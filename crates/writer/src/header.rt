@@ -25,7 +25,7 @@ pub fn alg_id(bits: BitCount) -> u32
 
 // Each number in four bytes.
 fn numbers(ns: [u32; 10]) -> [u8; 40]
-    ensures { λ r. ⌜ r ≡ LaidOut.numbers ns ⌝ }
+    ensures { λ r. ⌜ r ≡ LaidOut.fourBytesEach ns ⌝ }
 {
     let mut b = [0u8; 40];
     let mut i = 0;

@@ -4,7 +4,7 @@ use lib.ListN.{length}
 use Rattle.aes.specs.Tables.{sbox}
 use Rattle.aes.specs.Aes.{keyLength, wordsOf}
 use Rattle.aes.specs.Expansion.{roundsFor}
-use Rattle.aes.proofs.Keys.{Fits, fits, listed, unlisted, expanded-fit, expanded-other}
+use Rattle.aes.proofs.Keys.{Suits, fits, listed, unlisted, expanded-fit, expanded-other}
 use borrow.Author.Needs.{needs}
 use Rattle.aes.proofs.expand.Statement.{statement}
 use Rattle.aes.proofs.expand.Tie as tie
@@ -13,7 +13,7 @@ schedule-requires : tie.Need-schedule-requires
 unfolding keyLength wordsOf sbox
 schedule-requires c κs =
     let k = c .before .before .before .args .key .now in
-    let h : Fits k = fits k (listed (length k) 16 24 32 (c .before .match .keys1)) in
+    let h : Suits k = fits k (listed (length k) 16 24 32 (c .before .match .keys1)) in
     (h .few, h .most, h .whole, refl)
 
 returns : tie.Need-returns

@@ -5,7 +5,7 @@ use native.Mathlib.Omega.{arith}
 use borrow.Author.Needs.{needs}
 use lib.ListN.{length}
 use lib.Seq.{paste, paste-zero}
-use Rattle.aes.specs.Cipher.{keyOf, invCipher}
+use Rattle.aes.specs.Cipher.{roundKey, invCipher}
 use Rattle.aes.proofs.Undo.{length-invCipher}
 use Rattle.blocks.specs.Blocks.{ecb}
 use Rattle.blocks.proofs.Loops.{turn}
@@ -14,7 +14,7 @@ use Rattle.blocks.proofs.decrypt_with.Tie as tie
 
 abbrev Inv-loop : tie.InvT-loop
 Inv-loop w mixed rounds table words src size out₀ i₀ out i =
-    (i ≤ size) × (i < size → i % 16 ≡ 0) × (length out ≡ length out₀) × (out ≡ paste out₀ 0 (ecb (invCipher (keyOf w) rounds) src) i)
+    (i ≤ size) × (i < size → i % 16 ≡ 0) × (length out ≡ length out₀) × (out ≡ paste out₀ 0 (ecb (invCipher (roundKey w) rounds) src) i)
 
 abbrev μ-loop : tie.MeasureT-loop
 μ-loop w mixed rounds table words src size out₀ i₀ out i = size - i
@@ -22,7 +22,7 @@ abbrev μ-loop : tie.MeasureT-loop
 loop-holds : tie.Need-loop-holds Inv-loop μ-loop
 loop-holds c =
     let a = c .before .before .args in
-    (omega arith, λ h. refl, refl, paste-zero (a .out .now) 0 (ecb (invCipher (keyOf (a .w .now)) (a .rounds)) (a .src .now)))
+    (omega arith, λ h. refl, refl, paste-zero (a .out .now) 0 (ecb (invCipher (roundKey (a .w .now)) (a .rounds)) (a .src .now)))
 
 -- a turn begins at a block
 begins : (c : tie.In-loop Inv-loop μ-loop) → c .before .loop .i % 16 ≡ 0
@@ -43,12 +43,12 @@ loop-again c =
     let t = b .before .before .before in
     let l = t .before .loop in
     let a = t .before .before .before .before .args in
-    let f = invCipher (keyOf (a .w .now)) (a .rounds) in
+    let f = invCipher (roundKey (a .w .now)) (a .rounds) in
     let m = begins t in (
       omega arith,
       λ h. omega arith,
       p .kept .1 .1 .1 .0 ∙ l .inv .2,
-      turn f (λ x. length-invCipher (keyOf (a .w .now)) (a .rounds) x) (a .src .now) (a .out .now) (l .out) (p .last .1 .1 .1 .0) (b .inv-cipher .result)
+      turn f (λ x. length-invCipher (roundKey (a .w .now)) (a .rounds) x) (a .src .now) (a .out .now) (l .out) (p .last .1 .1 .1 .0) (b .inv-cipher .result)
           0 (l .i) (b .before .before .part .result) (l .i) m (omega arith) (omega arith) (omega arith) (omega arith) (l .inv .3)
           (b .inv-cipher .ensures ∙ ap f (b .before .block .ensures)) (p .ensures),
     )

@@ -8,7 +8,7 @@ use borrow.Author.Needs.{needs}
 use lib.ListN.{length, take, length-append}
 use lib.Seq.{paste, paste-zero, length-take-le}
 use Rattle.octets.proofs.Parts.{part-part}
-use Rattle.aes.specs.Cipher.{keyOf, cipher}
+use Rattle.aes.specs.Cipher.{roundKey, cipher}
 use Rattle.aes.proofs.Undo.{length-cipher}
 use Rattle.blocks.specs.Blocks.{ecb}
 use Rattle.blocks.proofs.Loops.{turn}
@@ -17,7 +17,7 @@ use Rattle.blocks.proofs.encrypt_with.Tie as tie
 
 abbrev Inv-loop : tie.InvT-loop
 Inv-loop w rounds table words contents filling size out₀ at i₀ out i =
-    (i ≤ size) × (i % 16 ≡ 0) × (length out ≡ length out₀) × (out ≡ paste out₀ at (ecb (cipher (keyOf w) rounds) (take size (contents ++ filling))) i)
+    (i ≤ size) × (i % 16 ≡ 0) × (length out ≡ length out₀) × (out ≡ paste out₀ at (ecb (cipher (roundKey w) rounds) (take size (contents ++ filling))) i)
 
 abbrev μ-loop : tie.MeasureT-loop
 μ-loop w rounds table words contents filling size out₀ at i₀ out i = size - i
@@ -28,7 +28,7 @@ loop-holds c =
       omega arith,
       refl,
       refl,
-      paste-zero (a .out .now) (a .at) (ecb (cipher (keyOf (a .w .now)) (a .rounds)) (take (a .size) (a .contents .now ++ a .filling .now))),
+      paste-zero (a .out .now) (a .at) (ecb (cipher (roundKey (a .w .now)) (a .rounds)) (take (a .size) (a .contents .now ++ a .filling .now))),
     )
 
 filled-block-requires : tie.Need-filled-block-requires Inv-loop μ-loop
@@ -44,13 +44,13 @@ loop-again c =
     let l = b .before .before .before .loop in
     let s = b .before .before .before .before .before .before in
     let a = s .args in
-    let f = cipher (keyOf (a .w .now)) (a .rounds) in
+    let f = cipher (roundKey (a .w .now)) (a .rounds) in
     let x : List ℕ = a .contents .now ++ a .filling .now in
     let long : length (take (a .size) x) ≡ a .size = length-take-le (a .size) x (rw length-append (omega arith)) in (
       omega arith,
       omega arith,
       p .kept .1 .1 .1 .0 ∙ l .inv .2,
-      turn f (λ y. length-cipher (keyOf (a .w .now)) (a .rounds) y) (take (a .size) x) (a .out .now) (l .out) (p .last .1 .1 .1 .0) (b .cipher .result)
+      turn f (λ y. length-cipher (roundKey (a .w .now)) (a .rounds) y) (take (a .size) x) (a .out .now) (l .out) (p .last .1 .1 .1 .0) (b .cipher .result)
           (a .at) (l .i) 16 (a .at + l .i) (l .inv .1) (omega arith) (omega arith) refl (omega arith) (l .inv .3)
           (b .cipher .ensures ∙ ap f (b .before .filled-block .ensures ∙ rw (part-part 16 (l .i) (a .size) 0 x (omega arith), zero-add))) (p .ensures),
     )

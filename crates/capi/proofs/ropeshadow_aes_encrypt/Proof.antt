@@ -8,12 +8,12 @@ use Rattle.capi.proofs.ropeshadow_aes_encrypt.Statement.{statement}
 use Rattle.capi.proofs.ropeshadow_aes_encrypt.Tie as tie
 
 returns : tie.Need-returns
-unfolding Capi.encrypted
+unfolding Capi.encryptOutcome
 returns c =
     let b = c .before .before in
     let a = b .before .before .before .args in
     c .written .ensures
-    ∙ ap (λ (r : Reply). Capi.block r (a .out .now)) (b .encrypt .ensures ∙ ap (Aes.encrypted (a .key .now)) (b .before .sixteen .ensures))
+    ∙ ap (λ (r : Reply). Capi.blockOutcome r (a .out .now)) (b .encrypt .ensures ∙ ap (Aes.encrypted (a .key .now)) (b .before .sixteen .ensures))
 
 pub ropeshadow-aes-encrypt-spec : {M : Type 1} → statement M
 ropeshadow-aes-encrypt-spec =

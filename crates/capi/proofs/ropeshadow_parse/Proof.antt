@@ -16,16 +16,16 @@ bytes-requires c κs =
     let info = p .before .before .args .info .now in
     let h : Admitted info = sym (ap (λ (q : Parsed). q .answer) (p .parse .ensures) ∙ parsed-answer info) ∙ c .before .if1 .taken in
     let e = ap (λ (q : Parsed). q .fields) (p .parse .ensures) ∙ parsed-fields info h in
-    subst Capi.Fits (sym e) (described-fits info h)
+    subst Capi.Crosses (sym e) (described-fits info h)
 
 returns : tie.Need-returns
-unfolding Capi.parsed
+unfolding Capi.parseOutcome
 returns c =
     let p = c .before .before .before in
     let old = p .before .before .args .out .now in
     answered _ _ _ old _ (c .word .ensures)
     (⊎-elim (λ w. inl (w .0 .taken, w .3 ∙ w .2 .ensures)) (λ w. inr (w .0 .left, w .1)) (c .before .if1 .came))
-    ∙ ap (λ (q : Parsed). Capi.ended (q .answer) 0 (Capi.descriptorBytes (q .fields)) old) (p .parse .ensures)
+    ∙ ap (λ (q : Parsed). Capi.outcomeBy (q .answer) 0 (Capi.descriptorBytes (q .fields)) old) (p .parse .ensures)
 
 pub ropeshadow-parse-spec : {M : Type 1} → statement M
 ropeshadow-parse-spec =

@@ -7,8 +7,8 @@ use Rattle.capi.proofs.ropeshadow_verdict.Statement.{statement}
 use Rattle.capi.proofs.ropeshadow_verdict.Tie as tie
 
 returns : tie.Need-returns
-unfolding Capi.judged
-returns c = c .word .ensures ∙ ap (λ (n : ℕ). Capi.word n 0) (c .before .verdict .ensures)
+unfolding Capi.verdictWord
+returns c = c .word .ensures ∙ ap (λ (n : ℕ). Capi.replyWord n 0) (c .before .verdict .ensures)
 
 pub ropeshadow-verdict-spec : {M : Type 1} → statement M
 ropeshadow-verdict-spec = tie.close (tie.spec (λ c κs. search needs) (λ c κs. search needs) returns)

@@ -10,7 +10,7 @@ word-requires : tie.Need-word-requires
 word-requires c κs = write-held _ _ _ _ _ _ _ _ _ (c .before .before .write-info .ensures)
 
 returns : tie.Need-returns
-unfolding Capi.written
+unfolding Capi.writeOutcome
 returns c =
     let w = c .before .before .before in
     let b = w .before .before in

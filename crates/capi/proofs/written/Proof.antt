@@ -7,7 +7,7 @@ use Rattle.capi.proofs.written.Statement.{statement}
 use Rattle.capi.proofs.written.Tie as tie
 
 returns : tie.Need-returns
-unfolding Capi.block
+unfolding Capi.blockOutcome
 returns c =
     answered _ _ _ _ _ (c .word .ensures) (⊎-elim (λ w. inl (w .0 .taken, w .2)) (λ w. inr (w .0 .left, w .1)) (c .before .if1 .came))
 

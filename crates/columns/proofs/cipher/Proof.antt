@@ -14,7 +14,7 @@ use Rattle.columns.proofs.cipher.Statement.{statement}
 use Rattle.columns.proofs.cipher.Tie as tie
 
 abbrev Inv-loop : tie.InvT-loop
-Inv-loop w rounds table words s₀ n₀ s n = (0 < n) × (n ≤ rounds) × (length s ≡ 16) × (s ≡ Cipher.rounds (Cipher.keyOf w) (n - 1) s₀)
+Inv-loop w rounds table words s₀ n₀ s n = (0 < n) × (n ≤ rounds) × (length s ≡ 16) × (s ≡ Cipher.rounds (Cipher.roundKey w) (n - 1) s₀)
 
 abbrev μ-loop : tie.MeasureT-loop
 μ-loop w rounds table words s₀ n₀ s n = rounds - n
@@ -29,7 +29,7 @@ loop-again : tie.Need-loop-again Inv-loop μ-loop
 loop-again c =
     let at = c .before .before .before .loop in
     let st = c .before .before .before .before .before in
-    let key = Cipher.keyOf (st .args .w .now) in
+    let key = Cipher.roundKey (st .args .w .now) in
     let e : at .n + 1 - 1 ≡ at .n = omega arith in
     let turn : c .round .result ≡ Cipher.round key (at .n) (at .s) =
     c .round .ensures 2 3 1 1 (look sbox) (st .pre .1 .1)

@@ -14,7 +14,7 @@ use Rattle.columns.proofs.inv_cipher.Statement.{statement}
 use Rattle.columns.proofs.inv_cipher.Tie as tie
 
 abbrev Inv-loop : tie.InvT-loop
-Inv-loop w mixed rounds table words s₀ n₀ s n = (n < rounds) × (Cipher.invRounds (Cipher.keyOf w) n s ≡ Cipher.invRounds (Cipher.keyOf w) (rounds - 1) s₀)
+Inv-loop w mixed rounds table words s₀ n₀ s n = (n < rounds) × (Cipher.invRounds (Cipher.roundKey w) n s ≡ Cipher.invRounds (Cipher.roundKey w) (rounds - 1) s₀)
 
 abbrev μ-loop : tie.MeasureT-loop
 μ-loop w mixed rounds table words s₀ n₀ s n = n
@@ -32,12 +32,12 @@ loop-again c =
     let at = c .before .before .before .loop in
     let st = c .before .before .before .before .before in
     let w = st .args .w .now in
-    let turn : c .round .result ≡ Cipher.invRound (Cipher.keyOf w) (at .n) (at .s) =
+    let turn : c .round .result ≡ Cipher.invRound (Cipher.roundKey w) (at .n) (at .s) =
     c .round .ensures 14 11 13 9 (look invSbox) (st .pre .1 .2)
-    ∙ ap₂ (λ (u k : List ℕ). Cipher.addRoundKey (Cipher.columns (Cipher.row 14 11 13 9) (map (look invSbox) u)) (Cipher.keyOf k (at .n)))
+    ∙ ap₂ (λ (u k : List ℕ). Cipher.addRoundKey (Cipher.columns (Cipher.row 14 11 13 9) (map (look invSbox) u)) (Cipher.roundKey k (at .n)))
     (c .before .inv-shift-rows .ensures) (st .pre .1 .0)
     ∙ by-invRound w (at .n) (at .s) (omega arith) in
-    (omega arith, ap (Cipher.invRounds (Cipher.keyOf w) (at .n - 1)) turn ∙ sym (invRounds-less (Cipher.keyOf w) (at .n) (at .s) (omega arith)) ∙ at .inv .1)
+    (omega arith, ap (Cipher.invRounds (Cipher.roundKey w) (at .n - 1)) turn ∙ sym (invRounds-less (Cipher.roundKey w) (at .n) (at .s) (omega arith)) ∙ at .inv .1)
 
 sub-bytes-requires : tie.Need-sub-bytes-requires Inv-loop μ-loop
 sub-bytes-requires c κs = ap length (c .before .before .before .before .pre .1 .1) ∙ length-invSbox
@@ -46,7 +46,7 @@ returns : tie.Need-returns Inv-loop μ-loop
 returns c =
     let at = c .before .before .before .before .loop in
     let st = c .before .before .before .before .before .before in
-    let key = Cipher.keyOf (st .args .w .now) in
+    let key = Cipher.roundKey (st .args .w .now) in
     let gone =
     invRounds-done key (at .n) (st .args .rounds - 1) (at .s) _ (omega arith) (at .inv .1)
     ∙ ap (Cipher.invRounds key (st .args .rounds - 1)) (c .before .before .before .before .before .add-round-key .ensures) in

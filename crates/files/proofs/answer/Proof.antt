@@ -1,12 +1,12 @@
 -- Each `first` puts one rule before the rest.
 use borrow.Author.Needs.{needs}
 use Rattle.answers.specs.Rules.{firstOf}
-use Rattle.files.specs.Files.{limit, missing, long, odd, fileRules}
+use Rattle.files.specs.Files.{filesLimit, missing, long, odd, fileRules}
 use Rattle.files.proofs.answer.Statement.{statement}
 use Rattle.files.proofs.answer.Tie as tie
 
 returns : tie.Need-returns
-unfolding firstOf fileRules missing long odd limit
+unfolding firstOf fileRules missing long odd filesLimit
 returns c = simp (
   c .first7 .ensures,
   c .before .before .first6 .ensures,

@@ -1,4 +1,4 @@
--- Each way out is a law of `opened`: a refusal by rule 17, or what `sheet` opens.
+-- Each way out is a law of `filesOpened`: a refusal by rule 17, or what `sheet` opens.
 use mathlib.Core.Path.{_≡_, sym, _∙_}
 use Prim.Native.Nat.{_/_, _≤_}
 use native.Mathlib.Omega.{arith}

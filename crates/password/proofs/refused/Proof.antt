@@ -5,7 +5,7 @@ use Rattle.password.proofs.refused.Statement.{statement}
 use Rattle.password.proofs.refused.Tie as tie
 
 returns : tie.Need-returns
-unfolding Verdict.refused
+unfolding Verdict.refusedKey
 returns c = refl
 
 pub refused-spec : {M : Type 1} → statement M

@@ -1,5 +1,4 @@
 -- Each way out is a law of `unlocked`: EncryptionInfo refused, a long password, a wrong one, and the key.
--- the parse's answer, and its fields where that is 0
 use mathlib.Core.Path.{_≡_, sym, ap, _∙_}
 use mathlib.Core.List.{List}
 use Prim.Native.Nat.{ℕ, _≤_}
@@ -13,13 +12,14 @@ use Rattle.aes.specs.declared.Expanded.{Expanded}
 use Rattle.descriptor.specs.Info.{infoRules, described}
 use Rattle.descriptor.specs.declared.Descriptor.{Descriptor}
 use Rattle.descriptor.specs.declared.Parsed.{Parsed}
-use Rattle.descriptor.proofs.Laws.{Admitted, parsed-answer, parsed-fields, sound}
+use Rattle.descriptor.proofs.Laws.{Admitted, parsed-answer, parsed-fields, well-formed}
 use Rattle.password.specs.Key as Key
 use Rattle.password.specs.Verdict as Verdict
 use Rattle.password.proofs.Laws.{key-short, key-fits, by-info, by-length, by-verifier, done}
 use Rattle.password.proofs.unlock.Statement.{statement}
 use Rattle.password.proofs.unlock.Tie as tie
 
+-- the parse's answer, and its fields where that is 0
 says : (c : tie.After-parse) → c .parse .result .answer ≡ firstOf (infoRules (c .before .before .before .args .info .now))
 says c = ap (λ (p : Parsed). p .answer) (c .parse .ensures) ∙ parsed-answer _
 
@@ -34,11 +34,11 @@ short : (c : tie.After-material) → c .before .before .before .before .before .
 short c =
     let e = c .before .before .before .before in
     let n : length (c .material .result) ≡ 40 = search needs in
-    rw (fields e) (omega (arith, key-short (described _) (e .before .before .before .before .args .password .now) (sound _ (admitted e))))
+    rw (fields e) (omega (arith, key-short (described _) (e .before .before .before .before .args .password .now) (well-formed _ (admitted e))))
 
 returns : tie.Need-returns
 returns c =
-    c .refused .ensures ∙ ap Verdict.refused (says (c .before .before))
+    c .refused .ensures ∙ ap Verdict.refusedKey (says (c .before .before))
     ∙ sym (by-info _ _ (λ z. c .before .if1 .taken (says (c .before .before) ∙ z)))
 
 returns-2 : tie.Need-returns-2
@@ -67,7 +67,7 @@ checked c =
     let i = e .before .before .before .before .args .info .now in
     let p = e .before .before .before .before .args .password .now in
     let k = Verdict.keyOf (described i) p in
-    c .matches .ensures k (key-fits (described i) p (sound i (admitted e))) (key (c .before .before .before))
+    c .matches .ensures k (key-fits (described i) p (well-formed i (admitted e))) (key (c .before .before .before))
     ∙ ap (λ (d : Descriptor). Verdict.matches k (d .verifier) (d .hash)) (fields e)
 
 returns-3 : tie.Need-returns-3

@@ -1,5 +1,4 @@
 -- Each way out is a law of `opened`: a refusal by the verdict, a refusal by the stream, and the package.
--- the answer that comes with the key is the verdict
 use mathlib.Core.Path.{_≡_, sym, ap, _∙_}
 use Prim.Native.Nat.{_-_}
 use native.Mathlib.Omega.{arith}
@@ -19,6 +18,7 @@ use Rattle.sheet.proofs.Written.{open-written}
 use Rattle.sheet.proofs.open.Statement.{statement}
 use Rattle.sheet.proofs.open.Tie as tie
 
+-- the answer that comes with the key is the verdict
 says : (c : tie.After-unlock) → let a = c .before .before .before .before .before .args in c .unlock .result .answer ≡ judged (a .info .now) (a .password .now)
 says c = ap (λ (u : Unlocked). u .answer) (c .unlock .ensures) ∙ unlocked-answer _ _
 

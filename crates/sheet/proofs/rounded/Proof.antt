@@ -4,13 +4,13 @@ use mathlib.Core.Logic.{⊎-elim}
 use Prim.Native.Nat.{_+_}
 use native.Mathlib.Omega.{arith}
 use borrow.Author.Needs.{needs}
-use Rattle.sheet.specs.Sheet.{limit, least, fillingFor, rounded}
+use Rattle.sheet.specs.Sheet.{packageLimit, least, fillingFor, rounded}
 use Rattle.sheet.proofs.Fillings.{without, untaken, taken}
 use Rattle.sheet.proofs.rounded.Statement.{statement}
 use Rattle.sheet.proofs.rounded.Tie as tie
 
 add-result : tie.Need-add-result
-unfolding limit
+unfolding packageLimit
 add-result c = omega arith
 
 returns : tie.Need-returns
@@ -20,7 +20,7 @@ returns c =
     rw (c .before .before .if1 .taken, taken (a .size) (sym (c .before .takes-extra .ensures) ∙ c .if2 .taken))
 
 add-result-2 : tie.Need-add-result-2
-unfolding limit
+unfolding packageLimit
 add-result-2 c = omega arith
 
 -- without an extra block

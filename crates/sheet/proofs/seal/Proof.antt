@@ -7,7 +7,7 @@ use Rattle.answers.specs.Rules.{firstOf}
 use Rattle.password.specs.Verdict.{judged}
 use Rattle.password.specs.declared.Unlocked.{Unlocked}
 use Rattle.password.proofs.Laws.{unlocked-answer}
-use Rattle.sheet.specs.Sheet.{limit, rounded, sealedSize, packRules}
+use Rattle.sheet.specs.Sheet.{packageLimit, rounded, sealedSize, packRules}
 use Rattle.sheet.proofs.Fillings.{rounded-most, rounded-whole}
 use Rattle.sheet.proofs.Lengths.{Sealable, sealable}
 use Rattle.sheet.proofs.Laws.{seal-by-verdict, seal-by-pack}
@@ -58,7 +58,7 @@ encrypt-requires c κs =
     (r, (rw n (rounded-whole _ _), omega (arith, rounded-most _ _ _ n), omega (arith, fit e .roomy)))
 
 add-done : tie.Need-add-done
-unfolding limit
+unfolding packageLimit
 add-done c =
     let e = c .before .before .before .before .before .before .before .before .before .before in
     omega (arith, fit e .limited, rounded-most _ _ _ (c .before .before .before .before .before .before .before .before .before .rounded .ensures))

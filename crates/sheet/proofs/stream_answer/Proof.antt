@@ -2,12 +2,12 @@
 use borrow.Author.Needs.{needs}
 use Rattle.answers.specs.Rules.{firstOf}
 use Rattle.sheet.specs.Frame.{streamSize}
-use Rattle.sheet.specs.Sheet.{limit, shortStream, large, badCiphertext, lacks, streamRules}
+use Rattle.sheet.specs.Sheet.{packageLimit, shortStream, large, badCiphertext, lacks, streamRules}
 use Rattle.sheet.proofs.stream_answer.Statement.{statement}
 use Rattle.sheet.proofs.stream_answer.Tie as tie
 
 returns : tie.Need-returns
-unfolding streamRules shortStream large limit badCiphertext lacks streamSize firstOf
+unfolding streamRules shortStream large packageLimit badCiphertext lacks streamSize firstOf
 returns c = simp (
   c .first4 .ensures,
   c .before .first3 .ensures,

@@ -3,14 +3,14 @@ use mathlib.Core.Path.{_≡_, ap, ap₂, _∙_}
 use lib.ListN.{length}
 use Rattle.aes.specs.Field.{xor}
 use Rattle.aes.specs.Cipher.{addRoundKey}
-use Rattle.aes.specs.Expansion.{word, turned, next}
+use Rattle.aes.specs.Expansion.{keyWord, turned, next}
 use Rattle.aes.proofs.Schedule.{word-added}
 use borrow.Author.Needs.{needs}
 use Rattle.aes.proofs.expansion.next.Statement.{statement}
 use Rattle.aes.proofs.expansion.next.Tie as tie
 
 returns : tie.Need-returns
-unfolding xor next word
+unfolding xor next keyWord
 returns c =
     let u = c .before .before .word .result in
     let t = c .turned .result in

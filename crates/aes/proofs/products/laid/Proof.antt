@@ -4,13 +4,13 @@ use Prim.Native.Nat.{_-_, _<_}
 use native.Mathlib.Omega.{arith}
 use borrow.Author.Needs.{needs}
 use Rattle.aes.specs.Products.{entry}
-use Rattle.aes.proofs.Steps.{Filled, filled-none, filled-more}
+use Rattle.aes.proofs.Steps.{Tabulated, filled-none, filled-more}
 use Rattle.aes.proofs.Shares.{laid-all}
 use Rattle.aes.proofs.products.laid.Statement.{statement}
 use Rattle.aes.proofs.products.laid.Tie as tie
 
 abbrev Inv-loop : tie.InvT-loop
-Inv-loop first second third fourth words₀ i₀ words i = Filled 256 (entry first second third fourth) i words
+Inv-loop first second third fourth words₀ i₀ words i = Tabulated 256 (entry first second third fourth) i words
 
 abbrev μ-loop : tie.MeasureT-loop
 μ-loop first second third fourth words₀ i₀ words i = 256 - i

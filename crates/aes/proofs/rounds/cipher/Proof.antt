@@ -11,7 +11,7 @@ use Rattle.aes.proofs.rounds.cipher.Statement.{statement}
 use Rattle.aes.proofs.rounds.cipher.Tie as tie
 
 abbrev Inv-loop : tie.InvT-loop
-Inv-loop w rounds table s₀ n₀ s n = (0 < n) × (n ≤ rounds) × (s ≡ Cipher.rounds (Cipher.keyOf w) (n - 1) s₀)
+Inv-loop w rounds table s₀ n₀ s n = (0 < n) × (n ≤ rounds) × (s ≡ Cipher.rounds (Cipher.roundKey w) (n - 1) s₀)
 
 abbrev μ-loop : tie.MeasureT-loop
 μ-loop w rounds table s₀ n₀ s n = rounds - n
@@ -23,7 +23,7 @@ loop-holds c = (omega arith, omega arith, refl)
 loop-again : tie.Need-loop-again Inv-loop μ-loop
 loop-again c =
     let at = c .before .before .loop in
-    let key = Cipher.keyOf (c .before .before .before .before .args .w .now) in
+    let key = Cipher.roundKey (c .before .before .before .before .args .w .now) in
     let e : at .n + 1 - 1 ≡ at .n = omega arith in
     (omega arith, omega arith, rw e (c .round .ensures ∙ ap (Cipher.round key (at .n)) (at .inv .2) ∙ sym (rounds-more key (at .n) _ (at .inv .0))))
 

@@ -11,7 +11,7 @@ use Rattle.aes.proofs.rounds.inv_cipher.Statement.{statement}
 use Rattle.aes.proofs.rounds.inv_cipher.Tie as tie
 
 abbrev Inv-loop : tie.InvT-loop
-Inv-loop w rounds table shares s₀ n₀ s n = (n < rounds) × (Cipher.invRounds (Cipher.keyOf w) n s ≡ Cipher.invRounds (Cipher.keyOf w) (rounds - 1) s₀)
+Inv-loop w rounds table shares s₀ n₀ s n = (n < rounds) × (Cipher.invRounds (Cipher.roundKey w) n s ≡ Cipher.invRounds (Cipher.roundKey w) (rounds - 1) s₀)
 
 abbrev μ-loop : tie.MeasureT-loop
 μ-loop w rounds table shares s₀ n₀ s n = n
@@ -22,7 +22,7 @@ loop-holds c = (omega arith, refl)
 loop-again : tie.Need-loop-again Inv-loop μ-loop
 loop-again c =
     let at = c .before .before .loop in
-    let key = Cipher.keyOf (c .before .before .before .before .args .w .now) in
+    let key = Cipher.roundKey (c .before .before .before .before .args .w .now) in
     (omega arith, ap (Cipher.invRounds key (at .n - 1)) (c .inv-round .ensures) ∙ sym (invRounds-less key (at .n) (at .s) (omega arith)) ∙ at .inv .1)
 
 sub-bytes-requires : tie.Need-sub-bytes-requires Inv-loop μ-loop
@@ -33,7 +33,7 @@ unfolding Cipher.invCipher Cipher.invSubBytes
 returns c =
     let at = c .before .before .before .before .loop in
     let st = c .before .before .before .before .before .before in
-    let key = Cipher.keyOf (st .args .w .now) in
+    let key = Cipher.roundKey (st .args .w .now) in
     let gone =
     invRounds-done key (at .n) (st .args .rounds - 1) (at .s) _ (omega arith) (at .inv .1)
     ∙ ap (Cipher.invRounds key (st .args .rounds - 1)) (c .before .before .before .before .before .add-round-key .ensures) in

@@ -7,7 +7,7 @@ use borrow.Author.Needs.{needs}
 use lib.ListN.{length, getD}
 use Rattle.aes.specs.Tables.{look}
 use Rattle.aes.proofs.States.{opened}
-use Rattle.aes.proofs.Steps.{Filled, filled-none, filled-more, filled-all}
+use Rattle.aes.proofs.Steps.{Tabulated, filled-none, filled-more, filled-all}
 use Rattle.aes.proofs.rounds.sub_bytes.Statement.{statement}
 use Rattle.aes.proofs.rounds.sub_bytes.Tie as tie
 
@@ -15,7 +15,7 @@ abbrev byte : List ℕ → List ℕ → ℕ → ℕ
 byte table s i = look table (getD s i 0)
 
 abbrev Inv-loop : tie.InvT-loop
-Inv-loop table s t₀ i₀ t i = Filled 16 (byte table s) i t
+Inv-loop table s t₀ i₀ t i = Tabulated 16 (byte table s) i t
 
 abbrev μ-loop : tie.MeasureT-loop
 μ-loop table s t₀ i₀ t i = 16 - i

@@ -5,7 +5,7 @@ use Rattle.capi.proofs.numbers.word.Statement.{statement}
 use Rattle.capi.proofs.numbers.word.Tie as tie
 
 returns : tie.Need-returns
-unfolding Capi.word
+unfolding Capi.replyWord
 returns c = search needs
 
 pub word-spec : {M : Type 1} → statement M

@@ -5,13 +5,13 @@ use native.Mathlib.Omega.{arith}
 use borrow.Author.Needs.{needs}
 use Rattle.aes.specs.Field.{xor}
 use Rattle.aes.specs.Products.{share, Laid}
-use Rattle.aes.proofs.Steps.{Filled, filled-none, filled-more, filled-all}
+use Rattle.aes.proofs.Steps.{Tabulated, filled-none, filled-more, filled-all}
 use Rattle.aes.proofs.Shares.{laid-by, mix-share}
 use Rattle.columns.proofs.words.shares.Statement.{statement}
 use Rattle.columns.proofs.words.shares.Tie as tie
 
 abbrev Inv-loop : tie.InvT-loop
-Inv-loop words₀ i₀ words i = Filled 256 (share 2 3 1 1) i words
+Inv-loop words₀ i₀ words i = Tabulated 256 (share 2 3 1 1) i words
 
 abbrev μ-loop : tie.MeasureT-loop
 μ-loop words₀ i₀ words i = 256 - i

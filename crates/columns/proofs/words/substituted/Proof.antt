@@ -5,13 +5,13 @@ use native.Mathlib.Omega.{arith}
 use borrow.Author.Needs.{needs}
 use Rattle.aes.specs.Tables.{look}
 use Rattle.aes.specs.Products.{Laid}
-use Rattle.aes.proofs.Steps.{Filled, filled-none, filled-more, filled-all}
+use Rattle.aes.proofs.Steps.{Tabulated, filled-none, filled-more, filled-all}
 use Rattle.columns.proofs.Tables.{at, by-table}
 use Rattle.columns.proofs.words.substituted.Statement.{statement}
 use Rattle.columns.proofs.words.substituted.Tie as tie
 
 abbrev Inv-loop : tie.InvT-loop
-Inv-loop table shares words₀ i₀ words i = Filled 256 (at table shares) i words
+Inv-loop table shares words₀ i₀ words i = Tabulated 256 (at table shares) i words
 
 abbrev μ-loop : tie.MeasureT-loop
 μ-loop table shares words₀ i₀ words i = 256 - i

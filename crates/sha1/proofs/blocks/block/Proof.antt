@@ -10,13 +10,13 @@ use Rattle.sha1.proofs.blocks.block.Statement.{statement}
 use Rattle.sha1.proofs.blocks.block.Tie as tie
 
 abbrev Inv-loop : tie.InvT-loop
-Inv-loop p at m₀ t₀ m t = (t ≤ 16) × ((length m ≡ 16) × (take t m ≡ fips.block p at t))
+Inv-loop p at m₀ t₀ m t = (t ≤ 16) × ((length m ≡ 16) × (take t m ≡ fips.blockWords p at t))
 
 abbrev μ-loop : tie.MeasureT-loop
 μ-loop p at m₀ t₀ m t = 16 - t
 
 loop-holds : tie.Need-loop-holds Inv-loop μ-loop
-unfolding fips.block
+unfolding fips.blockWords
 loop-holds c = (omega arith, (refl, refl))
 
 loop-again : tie.Need-loop-again Inv-loop μ-loop
@@ -29,7 +29,7 @@ returns : tie.Need-returns Inv-loop μ-loop
 returns c =
     let l = c .before in
     let e : l .loop .t ≡ 16 = omega arith in
-    sym (take-all (l .loop .t) (l .loop .m) (omega arith)) ∙ l .loop .inv .1 .1 ∙ ap (fips.block _ _) e
+    sym (take-all (l .loop .t) (l .loop .m) (omega arith)) ∙ l .loop .inv .1 .1 ∙ ap (fips.blockWords _ _) e
 
 pub block-spec : {M : Type 1} → statement M
 block-spec =

@@ -10,7 +10,7 @@ use Rattle.sha1.proofs.rounds.span.Statement.{statement}
 use Rattle.sha1.proofs.rounds.span.Tie as tie
 
 abbrev Inv-loop : tie.InvT-loop
-Inv-loop w k from to r₀ t₀ r t = (from ≤ t) × ((t ≤ to) × ((x : State) → r₀ ≡ fips.rounds w from x → r ≡ fips.rounds w t x))
+Inv-loop w k from to r₀ t₀ r t = (from ≤ t) × ((t ≤ to) × ((x : State) → r₀ ≡ fips.steps w from x → r ≡ fips.steps w t x))
 
 abbrev μ-loop : tie.MeasureT-loop
 μ-loop w k from to r₀ t₀ r t = to - t

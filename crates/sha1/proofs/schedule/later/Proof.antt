@@ -7,7 +7,7 @@ use Rattle.sha1.proofs.schedule.later.Statement.{statement}
 use Rattle.sha1.proofs.schedule.later.Tie as tie
 
 returns : tie.Need-returns
-unfolding fips.word
+unfolding fips.scheduleWord
 returns c = λ m. c .rotl .ensures ∙ (simp (le-ltb (c .before .before .before .before .before .args .t) 16 (c .before .before .before .before .before .pre .0)))
 
 pub later-spec : {M : Type 1} → statement M

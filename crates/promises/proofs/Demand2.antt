@@ -19,7 +19,7 @@ use Rattle.sheet.specs.Sheet.{fillingFor, rounded, sealedSize, openRules, sealR
 use Rattle.sheet.specs.Sheet.{left, reply, ended, opened, sealed}
 use Rattle.sheet.proofs.Laws.{verdict-numbered, open-numbered, open-answer, seal-numbered, seal-answer}
 use Rattle.promises.specs.Words.{publishedKey}
-use Rattle.promises.specs.Two.{Matches, Demand2}
+use Rattle.promises.specs.Demand2.{Matches, Demand2}
 use Rattle.promises.proofs.Ended.{by-rules}
 
 module _ (info password : List ℕ) where

@@ -12,7 +12,7 @@ use Rattle.sheet.specs.Sheet.{lengths, rounded, sealedSize, opening, packageOf,
 use Rattle.sheet.proofs.Laws.{open-zero, seal-zero, seal-alike, seal-by-length, length-package, length-sealing, filling-chosen}
 use Rattle.sheet.proofs.Pairs.{pair-seals, stream-opens, sealed-once, opened-lawful, opened-again}
 use Rattle.promises.specs.Words.{Accepted}
-use Rattle.promises.specs.Three.{Begins, Demand3}
+use Rattle.promises.specs.Demand3.{Begins, Demand3}
 use Rattle.promises.proofs.Inverts.{Own, Inverts, exact}
 
 module _ (info password : List ℕ) where

@@ -12,7 +12,7 @@ use Rattle.password.specs.Verdict.{judged, verdictRules, passwordRules}
 use Rattle.sheet.specs.Frame.{streamSize}
 use Rattle.sheet.specs.Sheet.{sealedSize, openRules, sealRules, streamRules, packRules, packageOf, filledWith, sealingOf, opened, sealed}
 use Rattle.sheet.proofs.Laws.{open-answer, open-zero, seal-answer, seal-zero, length-package, length-sealing, length-filling}
-use Rattle.promises.specs.One.{Parse, Call, Demand1, openNumbers, sealNumbers}
+use Rattle.promises.specs.Demand1.{Parse, Call, Demand1, openNumbers, sealNumbers}
 use Rattle.promises.proofs.Ended.{ended-call}
 
 parse : (info : List ℕ) → Parse (parsed info)

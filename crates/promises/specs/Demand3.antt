@@ -10,7 +10,7 @@ use lib.ListN.{length, take}
 use Rattle.octets.specs.Octets.{Bytes}
 use Rattle.sheet.specs.Frame.{Pair, Lawful}
 use Rattle.sheet.specs.Sheet.{lengths, takesExtra, fillingFor, gives}
-use Rattle.promises.specs.Words.{Judge, Opener, Sealer, Accepted, written}
+use Rattle.promises.specs.Words.{Judge, Opener, Sealer, Accepted, writtenPart}
 
 -- a sixteen-byte value that begins with the pair's filling, and the choice that makes the filling so long
 pub record Begins (p : Pair) (given : List ℕ) (extra : Bool) : Type 0 where
@@ -35,10 +35,10 @@ module _ (seals : Sealer) (info password : List ℕ) (p : Pair) (stream : List �
     pub out : List ℕ
     pub begins : Begins p given extra
     pub accepted : Accepted (seals info password (p .pack) given extra out)
-    pub wrote : written (seals info password (p .pack) given extra out) ≡ stream
+    pub wrote : writtenPart (seals info password (p .pack) given extra out) ≡ stream
 
 -- the stream that a pair seals into, as long as it has to be, and that opens to its package
-pub record Round (opens : Opener) (seals : Sealer) (info password : List ℕ) (p : Pair) : Type 0 where
+pub record RoundTrip (opens : Opener) (seals : Sealer) (info password : List ℕ) (p : Pair) : Type 0 where
   pub stream : List ℕ
   pub long : length stream ≡ 8 + (length (p .pack) + length (p .fill))
   pub sealing : Seals seals info password p stream
@@ -55,13 +55,13 @@ pub record Only (seals : Sealer) (info password stream pack : List ℕ) : Type 0
 -- what is asked under one descriptor and one password
 pub record Exact (opens : Opener) (seals : Sealer) (info password : List ℕ) : Type 0 where
   -- (a) every pair seals into a stream that opens to its package
-  pub a : (p : Pair) → Lawful lengths p → Round opens seals info password p
+  pub a : (p : Pair) → Lawful lengths p → RoundTrip opens seals info password p
   -- (b) two pairs that seal alike are the same pair
   pub b : (p q : Pair) → Lawful lengths p → Lawful lengths q
       → (stream : List ℕ) → Sealed seals info password p stream → Sealed seals info password q stream → p ≡ q
   -- (c) every stream of bytes that opens is the sealing of exactly one pair
   pub c : (stream out : List ℕ) → Bytes stream → Accepted (opens info password stream out)
-      → Only seals info password stream (written (opens info password stream out))
+      → Only seals info password stream (writtenPart (opens info password stream out))
   -- (d) two values that agree in the bytes that are needed seal alike; (a) to (c) are said of every value that begins with a filling
   pub d : (pack given other : List ℕ) (extra : Bool) (out : List ℕ) → length given ≡ 16 → length other ≡ 16
       → take (fillingFor extra (length pack)) given ≡ take (fillingFor extra (length pack)) other
