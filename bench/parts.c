@@ -40,7 +40,7 @@ static uint64_t sha1_alone(const unsigned char *m, size_t n, unsigned char *unus
     return bench_hash(m, n);
 }
 
-/* in a library that derives keys too, where the compression is called from two places */
+/* in a library that derives keys too: a turn makes its rounds itself, so that the compression has one caller; a second would show here */
 static uint64_t sha1_shared(const unsigned char *m, size_t n, unsigned char *unused)
 {
     (void)unused;
