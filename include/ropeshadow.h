@@ -7,9 +7,21 @@
  * Each function returns one number, answer + 65,536 x size; ROPESHADOW_ANSWER and ROPESHADOW_SIZE take it apart. Answer 0 is done;
  * any other is the first broken rule, and then the size is 0 and every byte of `out` is as it was.
  *
- * The caller owns all memory, lends it for the call and gets it back: nothing is kept. Only `out` is written. `out` overlaps no
- * input. No pointer is null, even where its count is 0. A count is of elements: bytes, or the 16-bit units of a password.
- * Sixteen bytes by value are two numbers, the first eight bytes and the last eight, each low byte first.
+ * The caller owns all memory, lends it for the call and gets it back: nothing is kept. Only `out` is written. A count is of elements:
+ * bytes, or the 16-bit units of a password. Sixteen bytes by value are two numbers, the first eight bytes and the last eight, each low
+ * byte first.
+ *
+ * Nothing checks what is passed. The caller sees to it that
+ *   - each pointer leads to as many elements as its count says, and an `out` of fixed length to that many bytes;
+ *   - no pointer is null, even where its count is 0;
+ *   - `out` shares no byte with anything else lent (inputs may overlap each other);
+ *   - the units of a password are aligned as a uint16_t is;
+ *   - until the call returns nobody else, no thread, signal handler or mapped file, writes to what is lent, or reads `out`;
+ *   - there is stack enough. On x86-64 a call takes at most so many bytes, measured in the compiled code (tools/stack) and rounded up:
+ *     ropeshadow_parse 512, ropeshadow_sha1 1,024, ropeshadow_aes_encrypt 2,048, ropeshadow_write_info 4,096,
+ *     ropeshadow_aes_decrypt 5,120, ropeshadow_verdict 6,144, ropeshadow_seal 6,144, ropeshadow_open 10,240.
+ *     On Arm nothing was measured.
+ * docs/TRUST.md has all that is taken for granted.
  */
 #ifndef ROPESHADOW_H
 #define ROPESHADOW_H

@@ -1,0 +1,109 @@
+/* How deep each function writes below its caller, on x86-64: it is called on a stack of its own that is painted before. Prints a line
+   for each, the name and the bytes from the return address down, the most of several calls. tools/stack runs it. */
+#include "ropeshadow.h"
+#include <stdio.h>
+#include <stdlib.h>
+#include <string.h>
+
+enum { DEEP = 1 << 16, PAINT = 0xa5, ARGUMENTS = 16, UNITS = 255, PACKAGE = 4096, NAME = 108 };
+
+static unsigned char deep[DEEP] __attribute__((aligned(64)));
+static unsigned char *called_at; /* the stack pointer at the call, before the return address */
+
+/* Calls f with sixteen arguments, six in registers and ten on the stack that ends at top; more than it takes do no harm. */
+uint64_t call_on(unsigned char *top, void *f, const uint64_t *arguments, unsigned char **at);
+__asm__(".text\n"
+        "call_on:\n"
+        "    push %rbp\n"
+        "    mov %rsp, %rbp\n"
+        "    push %rbx\n"
+        "    push %r12\n"
+        "    mov %rdx, %rbx\n"
+        "    mov %rsi, %r12\n"
+        "    mov %rdi, %rsp\n"
+        "    mov $15, %eax\n"
+        "1:  pushq (%rbx,%rax,8)\n"
+        "    dec %eax\n"
+        "    cmp $6, %eax\n"
+        "    jae 1b\n"
+        "    mov %rsp, (%rcx)\n"
+        "    mov (%rbx), %rdi\n"
+        "    mov 8(%rbx), %rsi\n"
+        "    mov 16(%rbx), %rdx\n"
+        "    mov 24(%rbx), %rcx\n"
+        "    mov 32(%rbx), %r8\n"
+        "    mov 40(%rbx), %r9\n"
+        "    call *%r12\n"
+        "    lea -16(%rbp), %rsp\n"
+        "    pop %r12\n"
+        "    pop %rbx\n"
+        "    pop %rbp\n"
+        "    ret\n");
+
+static const char *name_of;
+static size_t most;
+
+#define AS(x) ((uint64_t)(uintptr_t)(x))
+#define CALL(f, answer, ...) (name_of = #f, call((void *)(uintptr_t)(f), answer, (uint64_t[ARGUMENTS]){__VA_ARGS__}))
+
+/* One call, which must be answered so; the most that any took is kept. */
+static uint64_t call(void *f, unsigned answer, const uint64_t *arguments)
+{
+    memset(deep, PAINT, DEEP);
+    uint64_t word = call_on(deep + DEEP, f, arguments, &called_at);
+    if (ROPESHADOW_ANSWER(word) != answer) {
+        fprintf(stderr, "%s answers %u and not %u\n", name_of, ROPESHADOW_ANSWER(word), answer);
+        exit(1);
+    }
+    unsigned char *lowest = deep;
+    while (*lowest == PAINT) lowest++;
+    if (lowest == deep) {
+        fprintf(stderr, "%s: the stack is too short\n", name_of);
+        exit(1);
+    }
+    size_t depth = (size_t)(called_at - lowest);
+    if (depth > most) most = depth;
+    return word;
+}
+
+static void tell(void)
+{
+    printf("%s %zu\n", name_of, most);
+    most = 0;
+}
+
+int main(void)
+{
+    static unsigned char message[65536], name[NAME], info[3][116 + NAME], package[PACKAGE], stream[PACKAGE + 24], opened[PACKAGE + 24], fixed[84];
+    static const unsigned char key[32];
+    static uint16_t password[UNITS];
+    const uint64_t any = 0x0123456789abcdef, units = UNITS;
+    for (size_t i = 0; i < UNITS; i++) password[i] = (uint16_t)(i * 257 + 1);
+
+    CALL(ropeshadow_sha1, 0, AS(message), 24, AS(fixed));
+    CALL(ropeshadow_sha1, 0, AS(message), 65536, AS(fixed));
+    tell();
+    for (uint64_t n = 16; n <= 32; n += 8) CALL(ropeshadow_aes_encrypt, 0, AS(key), n, any, any, AS(fixed));
+    tell();
+    for (uint64_t n = 16; n <= 32; n += 8) CALL(ropeshadow_aes_decrypt, 0, AS(key), n, any, any, AS(fixed));
+    tell();
+    for (uint64_t i = 0; i < 3; i++)
+        CALL(ropeshadow_write_info, 0, 128 + 64 * i, AS(password), units, AS(name), NAME, any, any, any, any, any, any, AS(info[i]), 116 + NAME);
+    tell();
+    CALL(ropeshadow_parse, 0, AS(info[0]), 116 + NAME, AS(fixed));
+    tell();
+    for (int i = 0; i < 3; i++) CALL(ropeshadow_verdict, 0, AS(info[i]), 116 + NAME, AS(password), units);
+    CALL(ropeshadow_verdict, 12, AS(info[0]), 116 + NAME, AS(password), units - 1);
+    tell();
+    uint64_t sealed[3];
+    for (int i = 0; i < 3; i++)
+        sealed[i] = CALL(ropeshadow_seal, 0, AS(info[i]), 116 + NAME, AS(password), units, AS(package), PACKAGE - (uint64_t)i, any, any, 1, AS(stream), sizeof stream);
+    tell();
+    CALL(ropeshadow_open, 0, AS(info[2]), 116 + NAME, AS(password), units, AS(stream), ROPESHADOW_SIZE(sealed[2]), AS(opened), sizeof opened);
+    for (int i = 0; i < 2; i++) {
+        sealed[i] = ropeshadow_seal(info[i], 116 + NAME, password, UNITS, package, PACKAGE - (uint64_t)i, any, any, 1, stream, sizeof stream);
+        CALL(ropeshadow_open, 0, AS(info[i]), 116 + NAME, AS(password), units, AS(stream), ROPESHADOW_SIZE(sealed[i]), AS(opened), sizeof opened);
+    }
+    tell();
+    return 0;
+}
