@@ -5,7 +5,8 @@
 #include <stdlib.h>
 #include <string.h>
 
-enum { DEEP = 1 << 16, PAINT = 0xa5, ARGUMENTS = 16, UNITS = 255, PACKAGE = 4096, NAME = 108 };
+enum { DEEP = 1 << 16, PAINT = 0xa5, ARGUMENTS = 16 };
+enum { UNITS = 255, NAME = 108, INFO_SIZE = 116 + NAME, PACKAGE = 4096, ROOM = PACKAGE + 24 };
 
 static unsigned char deep[DEEP] __attribute__((aligned(64)));
 static unsigned char *called_at; /* the stack pointer at the call, before the return address */
@@ -44,6 +45,8 @@ static const char *name_of;
 static size_t most;
 
 #define AS(x) ((uint64_t)(uintptr_t)(x))
+#define INFO(i) AS(info[i]), INFO_SIZE
+#define PASSWORD AS(password), UNITS
 #define CALL(f, answer, ...) (name_of = #f, call((void *)(uintptr_t)(f), answer, (uint64_t[ARGUMENTS]){__VA_ARGS__}))
 
 /* One call, which must be answered so; the most that any took is kept. */
@@ -74,10 +77,10 @@ static void tell(void)
 
 int main(void)
 {
-    static unsigned char message[65536], name[NAME], info[3][116 + NAME], package[PACKAGE], stream[PACKAGE + 24], opened[PACKAGE + 24], fixed[84];
+    static unsigned char message[65536], name[NAME], info[3][INFO_SIZE], package[PACKAGE], stream[ROOM], opened[ROOM], fixed[84];
     static const unsigned char key[32];
     static uint16_t password[UNITS];
-    const uint64_t any = 0x0123456789abcdef, units = UNITS;
+    const uint64_t any = 0x0123456789abcdef;
     for (size_t i = 0; i < UNITS; i++) password[i] = (uint16_t)(i * 257 + 1);
 
     CALL(ropeshadow_sha1, 0, AS(message), 24, AS(fixed));
@@ -88,21 +91,19 @@ int main(void)
     for (uint64_t n = 16; n <= 32; n += 8) CALL(ropeshadow_aes_decrypt, 0, AS(key), n, any, any, AS(fixed));
     tell();
     for (uint64_t i = 0; i < 3; i++)
-        CALL(ropeshadow_write_info, 0, 128 + 64 * i, AS(password), units, AS(name), NAME, any, any, any, any, any, any, AS(info[i]), 116 + NAME);
+        CALL(ropeshadow_write_info, 0, 128 + 64 * i, PASSWORD, AS(name), NAME, any, any, any, any, any, any, INFO(i));
     tell();
-    CALL(ropeshadow_parse, 0, AS(info[0]), 116 + NAME, AS(fixed));
+    CALL(ropeshadow_parse, 0, INFO(0), AS(fixed));
     tell();
-    for (int i = 0; i < 3; i++) CALL(ropeshadow_verdict, 0, AS(info[i]), 116 + NAME, AS(password), units);
-    CALL(ropeshadow_verdict, 12, AS(info[0]), 116 + NAME, AS(password), units - 1);
+    for (int i = 0; i < 3; i++) CALL(ropeshadow_verdict, 0, INFO(i), PASSWORD);
+    CALL(ropeshadow_verdict, 12, INFO(0), AS(password), UNITS - 1);
     tell();
-    uint64_t sealed[3];
-    for (int i = 0; i < 3; i++)
-        sealed[i] = CALL(ropeshadow_seal, 0, AS(info[i]), 116 + NAME, AS(password), units, AS(package), PACKAGE - (uint64_t)i, any, any, 1, AS(stream), sizeof stream);
+    /* a package with an extra block, and two whose last block is filled */
+    for (uint64_t i = 0; i < 3; i++) CALL(ropeshadow_seal, 0, INFO(i), PASSWORD, AS(package), PACKAGE - i, any, any, 1, AS(stream), ROOM);
     tell();
-    CALL(ropeshadow_open, 0, AS(info[2]), 116 + NAME, AS(password), units, AS(stream), ROPESHADOW_SIZE(sealed[2]), AS(opened), sizeof opened);
-    for (int i = 0; i < 2; i++) {
-        sealed[i] = ropeshadow_seal(info[i], 116 + NAME, password, UNITS, package, PACKAGE - (uint64_t)i, any, any, 1, stream, sizeof stream);
-        CALL(ropeshadow_open, 0, AS(info[i]), 116 + NAME, AS(password), units, AS(stream), ROPESHADOW_SIZE(sealed[i]), AS(opened), sizeof opened);
+    for (uint64_t i = 0; i < 3; i++) {
+        uint64_t sealed = ropeshadow_seal(info[i], INFO_SIZE, password, UNITS, package, PACKAGE - i, any, any, 1, stream, ROOM);
+        CALL(ropeshadow_open, 0, INFO(i), PASSWORD, AS(stream), ROPESHADOW_SIZE(sealed), AS(opened), ROOM);
     }
     tell();
     return 0;
