@@ -44,9 +44,9 @@ pub length-keyBytes : (n : ℕ) (salt p : List ℕ) → n ≤ 40 → length (Key
 unfolding Key.keyBytes
 length-keyBytes n salt p h = length-take-le n (Key.material salt p) (omega (arith, length-material salt p))
 
-pub roundKey-is : (d : Descriptor) (p : List ℕ) → Verdict.keyOf d p ≡ Key.keyBytes (d .key .0) (d .salt) p
+pub keyOf-is : (d : Descriptor) (p : List ℕ) → Verdict.keyOf d p ≡ Key.keyBytes (d .key .0) (d .salt) p
 unfolding Verdict.keyOf
-roundKey-is d p = refl
+keyOf-is d p = refl
 
 pub key-bytes : (d : Descriptor) (p : List ℕ) → Bytes (Verdict.keyOf d p)
 unfolding Verdict.keyOf

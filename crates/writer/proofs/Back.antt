@@ -21,7 +21,7 @@ use Rattle.descriptor.specs.declared.Suite.{Suite}
 use Rattle.descriptor.proofs.Laws.{Admitted}
 use Rattle.descriptor.proofs.LaidOut.{Held, Sized, Good, reads, laid-bytes, laid-admitted, laid-described, laid-name, length-laid}
 use Rattle.password.specs.Verdict.{keyOf, matches, judged}
-use Rattle.password.proofs.Laws.{keyBytes-bytes, roundKey-is, matching, accepted}
+use Rattle.password.proofs.Laws.{keyBytes-bytes, keyOf-is, matching, accepted}
 use Rattle.blocks.specs.Stream.{Fit}
 use Rattle.blocks.specs.Blocks.{whole}
 use Rattle.blocks.proofs.Reversible.{whole-fit}
@@ -159,5 +159,5 @@ module _ (bits : ℕ) (password name salt verifier filling : List ℕ) where
     info-accepted =
         accepted info password info-admitted (g .fits .typed)
         (ap (λ (d : Descriptor). matches (keyOf d password) (d .verifier) (d .hash)) info-described
-        ∙ ap (λ (k : List ℕ). matches k (verifierField key verifier) (hashField key verifier filling)) (roundKey-is newDescriptor password)
+        ∙ ap (λ (k : List ℕ). matches k (verifierField key verifier) (hashField key verifier filling)) (keyOf-is newDescriptor password)
         ∙ matching key verifier (verifierField key verifier) (hashField key verifier filling) filling verifier-back hash-back)
