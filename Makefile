@@ -1,14 +1,18 @@
-# test: the whole gate. open: the sample sheet, opened by the proved program. second: the second implementation's lines alone.
+# test: the whole gate. open: the sample sheet, opened by the proved program. docs: whether the pages name what is there. second: the
+# second implementation's lines alone.
 # lib: the outside interface as target/lib/libropeshadow.a and .so. outside: the archive and the program against the second
 # implementation and real producers (installs Debian packages). fuzz: ten minutes of libFuzzer on it (installs clang).
 # bench: times beside other implementations, README.md's table and docs/speed.svg (needs libssl-dev). map: docs/map.svg from crates.txt.
-.PHONY: test open second lib outside fuzz bench map
+.PHONY: test open docs second lib outside fuzz bench map
 
 test:
 	.ci/run
 
 open:
 	tools/open
+
+docs:
+	tests/docs/check
 
 second:
 	tests/second/compare
