@@ -2,7 +2,8 @@
 # second implementation's lines alone.
 # lib: the outside interface as target/lib/libropeshadow.a and .so. outside: the archive and the program against the second
 # implementation and real producers (installs Debian packages). fuzz: ten minutes of libFuzzer on it (installs clang).
-# bench: times beside other implementations, README.md's table and docs/speed.svg (needs libssl-dev). map: docs/map.svg from crates.txt.
+# bench: times beside other implementations, the table of docs/SPEED.md, docs/speed.svg (needs libssl-dev). map: docs/map.svg from
+# crates.txt.
 .PHONY: test open docs second lib outside fuzz bench map
 
 test:
