@@ -1,7 +1,7 @@
 """Real producers: what Apache POI and LibreOffice lock is opened byte for byte, by the library and by the examples, and what the
 library seals, under their descriptors and under those that it writes itself, is opened by msoffcrypto-tool, Apache POI and LibreOffice.
     producers.py EXAMPLES    the folder with the compiled examples unlock-c and unlock-rs; the shared library is target/lib's"""
-import ctypes, io, os, pathlib, pty, random, select, subprocess, sys, tempfile, zipfile
+import ctypes, io, os, pathlib, pty, random, select, struct, subprocess, sys, tempfile, zipfile
 from collections import Counter
 from importlib.metadata import version
 import olefile, openpyxl
@@ -60,14 +60,14 @@ def extra_block(size):
     """Whether a package of that size may have an extra block (2026-02)."""
     return size > 0 and size % 4096 == 0
 
-def sealed(info, password, package, extra=0):
-    """The whole stream by the library, with a filling that shows if it is looked at."""
+def sealed(info, password, package, extra=0, filling=bytes(range(1, 17))):
+    """The whole stream by the library, unless told otherwise with a filling that shows if it is looked at."""
     units, size = password.encode("utf-16-le"), len(package)
     seal = unlock.library().ropeshadow_seal
     seal.argtypes = [ctypes.c_char_p, ctypes.c_size_t] * 3 + [ctypes.c_uint64] * 3 + [ctypes.c_void_p, ctypes.c_size_t]
     seal.restype = ctypes.c_uint64
     out = ctypes.create_string_buffer(size + 24)
-    word = seal(info, len(info), units, len(units) // 2, package, size, 0x0807060504030201, 0x100f0e0d0c0b0a09, extra, out, size + 24)
+    word = seal(info, len(info), units, len(units) // 2, package, size, *struct.unpack("<2Q", filling), extra, out, size + 24)
     check("sealed", word == 65536 * (8 + -(-size // 16) * 16 + (16 if extra and extra_block(size) else 0)))
     return out.raw[:word // 65536]
 
@@ -99,6 +99,13 @@ def by_msoffcrypto(info, password, stream):
     salt, verifier, verifier_hash = info[end + 4:end + 20], info[end + 20:end + 36], info[end + 40:]
     key = ECMA376Standard.makekey_from_password(password, 0, 0x8004, 24, bits, 16, salt)
     return ECMA376Standard.decrypt(key, io.BytesIO(stream)) if ECMA376Standard.verifykey(key, verifier, verifier_hash) else None
+
+def by_command(book, password):
+    """The package by the command msoffcrypto-tool, or None where it refuses."""
+    with tempfile.TemporaryDirectory() as folder:
+        opened = pathlib.Path(folder, "opened")
+        done = subprocess.run(["msoffcrypto-tool", "-p", password, book, opened], stdin=subprocess.DEVNULL, capture_output=True)
+        return opened.read_bytes() if done.returncode == 0 else None
 
 def workbook(path, rows):
     book = openpyxl.Workbook()
@@ -200,12 +207,9 @@ def anew(folder, java):
 def openers(folder, java, office, book, password, package):
     """Who opens a workbook: byte for byte, LibreOffice by the text of its first cell."""
     opened = folder / "opened"
-    def whole(done):
-        same = done and opened.read_bytes() == package
-        opened.unlink(missing_ok=True)
-        return same
-    command = subprocess.run(["msoffcrypto-tool", "-p", password, book, opened], stdin=subprocess.DEVNULL, capture_output=True)
-    by = {"msoffcrypto-tool": whole(command.returncode == 0), "Apache POI": whole(java.ask("open", password, book, opened) == "done"),
+    opened.unlink(missing_ok=True)
+    by = {"msoffcrypto-tool": by_command(book, password) == package,
+          "Apache POI": java.ask("open", password, book, opened) == "done" and opened.read_bytes() == package,
           "LibreOffice": office is not None and office.ask("read", password, book) == "seat 0"}
     return {name for name in by if by[name]}
 
@@ -267,8 +271,7 @@ def command(folder, book, password):
     info, _ = streams(book)
     package = uneven(folder / "plain.xlsx")
     compound(folder / "again.xlsx", info, sealed(info, password, package))
-    done = subprocess.run(["msoffcrypto-tool", "-p", password, folder / "again.xlsx", folder / "again.opened"], capture_output=True)
-    check("sealed, opened by the command msoffcrypto-tool", done.returncode == 0 and (folder / "again.opened").read_bytes() == package)
+    check("sealed, opened by the command msoffcrypto-tool", by_command(folder / "again.xlsx", password) == package)
 
 def typed(arguments, password):
     """The status and the terminal's contents of a program that asks for its password."""
@@ -296,7 +299,7 @@ def examples(folder, built, book, package):
     secret.write_text(PASSWORDS[1] + "\n", encoding="utf-8")
     other.write_text("another\n")
     opened, agile = book.with_name(book.stem + ".opened.xlsx"), folder / "agile.xlsx"
-    # no producer at hand writes Agile: its version and flags with the front of its XML, by hand
+    # neither producer writes Agile: its version and flags with the front of its XML, by hand
     compound(agile, bytes([4, 0, 4, 0, 0x40, 0, 0, 0]) + b'<?xml version="1.0" encoding="UTF-8"?><encryption/>', bytes(24))
     for name, program in (("C", [built / "unlock-c"]), ("Python", ["/usr/bin/python3", ROOT / "examples/unlock.py"])):
         def run(*words):
@@ -356,7 +359,7 @@ def main():
             office = Worker("LibreOffice", "/usr/bin/python3", str(ROOT / "tests/outside/libre.py"))
             books.append(libre(folder, office))
         else:
-            said("LibreOffice: skipped, it is not installed")
+            check("LibreOffice: it is not installed, so nothing of it was tried", False)
         anew(folder, java)
         anew_workbooks(folder, java, office)
         extra_workbooks(folder, java, office)
@@ -370,4 +373,5 @@ def main():
     print(f"producers: {passed} passed, {failed} failed")
     sys.exit(failed != 0)
 
-main()
+if __name__ == "__main__":
+    main()
