@@ -12,7 +12,7 @@ from producers import ROOT, by_command, by_msoffcrypto, check, said, sealed, str
 SOURCE = "libapache-poi-java"
 OFFICE = {"spreadsheet/58616.xlsx": "VelvetSweatshop", "poifs/protect.xlsx": "VelvetSweatshop",
           "spreadsheet/protected_passtika.xlsx": "tika", "document/bug53475-password-is-solrcell.docx": "solrcell"}
-# not of Office: its stream is filled up to a multiple of 512 bytes
+# not of Office: its sectors hold so many bytes too many, and its directory promises more still
 LONGER, LONGER_PASSWORD, LONGER_BY = "poifs/extenxls_pwd123.xlsx", "pwd123", 40
 
 def fetched(room):
@@ -135,8 +135,9 @@ def longer(folder, name, password, by, built):
     check(f"{name}: {by} bytes too many", len(stream) - 8 - -(-size // 16) * 16 == by)
     check(f"{name}: refused", unlock.opened(info, password, stream) == (15, b""))
     check(f"{name}: another password", unlock.opened(info, password + "?", stream) == (12, b""))
+    # libgsf, unlike olefile, does not read a stream whose sectors end early
     text, left = by_c(built, folder / name, password)
-    check(f"{name}: refused by the example in C", "(answer 15)" in text and left is None)
+    check(f"{name}: not read by the example in C", "EncryptedPackage: cannot be read" in text and left is None)
     answer, package = unlock.opened(info, password, stream[:-by])
     check(f"{name}: opened without them", answer == 0 and sound(package))
     check(f"{name}: as msoffcrypto-tool opens it without them", package == by_msoffcrypto(info, password, stream[:-by]))
