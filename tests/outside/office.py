@@ -108,13 +108,13 @@ def described(info, stream):
             f"{f'name {name!r}' if name else 'no name'}, StreamSize {size}, ciphertext {len(stream) - 8}")
 
 def office(folder, name, password, built):
-    """A document of Office: opened, refused under another password, and sealed into the stream that it came as."""
+    """A document of Office: opened, refused under another password, and sealed into the stream that it came as. Whether it opens."""
     info, stream = streams(folder / name)
     answer, package = unlock.opened(info, password, stream)
     check(f"{name}: opened", answer == 0)
     check(f"{name}: a sound ZIP file", sound(package))
     if not sound(package):
-        return
+        return False
     check(f"{name}: written by Office", producer(package).startswith("Microsoft "))
     check(f"{name}: as msoffcrypto-tool opens it", package == by_msoffcrypto(info, password, stream) == by_command(folder / name, password))
     check(f"{name}: another password", unlock.opened(info, password + "?", stream) == (12, b""))
@@ -127,6 +127,7 @@ def office(folder, name, password, built):
     check(f"{name}: its filling", filled[:len(package)] == package and len(filled) - len(package) < 16)
     check(f"{name}: sealed as it was", sealed(info, password, package, 0, filled[len(package):].ljust(16, b"\0")) == stream)
     said(f"  {name}: {producer(package)}, {described(info, stream)}, answer {answer}")
+    return True
 
 def longer(folder, name, password, by, built):
     """A document whose stream has bytes too many: refused as it is, and opened without them."""
@@ -163,8 +164,8 @@ def tried(folder, names, built):
         check(f"{name}: parsed", parsed(streams(folder / name)[0]) == 0)
     for name in other:
         agile(folder, name, built)
-    for name in sorted(OFFICE.keys() & {*standard}):
-        office(folder, name, OFFICE[name], built)
+    opened = [name for name in sorted(OFFICE.keys() & {*standard}) if office(folder, name, OFFICE[name], built)]
+    said(f"  {len(opened)} of Office opened")
     if LONGER in standard:
         longer(folder, LONGER, LONGER_PASSWORD, LONGER_BY, built)
 

@@ -179,7 +179,7 @@ def libre(folder, worker):
         remainders.add(len(package) % 16 == 0)
         if rows >= 220 and len(remainders) == 2:
             break
-    said(f"  sizes that are a multiple of 16 tried: {True in remainders}; others: {False in remainders}")
+    said(f"  LibreOffice, sizes that are a multiple of 16 tried: {True in remainders}; others: {False in remainders}")
     check("LibreOffice: 256 units", worker.ask("lock", "z" * 256, plain, locked) == "done" and unlock.opened(streams(locked)[0], "z" * 256, b"")[0] == 11)
     book = folder / "by-libre.xlsx"
     compound(book, info, sealed(info, password, plain.read_bytes()))
