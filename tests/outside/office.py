@@ -1,6 +1,6 @@
 """Documents that Microsoft Office itself locked: Apache POI's test data has some, and Debian has that in POI's source package, which is
 fetched and never kept in the repository. Each opens, byte for byte as msoffcrypto-tool opens it, into a sound ZIP file, and seals into
-the very stream that Office wrote. Every other locked document of the test data is answered as its version asks for.
+the very stream that Office wrote. Of the other locked documents those of version 4.4 are answered 2, and one whose stream is too long 15.
     office.py EXAMPLES    the folder with the compiled example unlock-c; the shared library is target/lib's"""
 import ctypes, io, pathlib, re, shutil, struct, subprocess, sys, tarfile, tempfile, zipfile
 import olefile
