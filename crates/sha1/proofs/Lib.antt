@@ -1,7 +1,9 @@
 -- `Steps`: the rounds and the schedule, one more at a time. `Chains`: runs of blocks. `Padded`: the padded message and the hash's
--- bytes. Crates above cite `Laws`, what every hash is, and `Short`, the hash of a message of one block.
+-- bytes. Crates above cite `Laws`, what every hash is, `Short`, the hash of a message of one block, and `Unique`: that a hash's bytes
+-- are those of one state.
 mod Steps
 mod Chains
 mod Padded
 pub mod Laws
 pub mod Short
+pub mod Unique

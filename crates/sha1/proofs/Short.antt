@@ -43,7 +43,7 @@ wordBytes-zeros (suc n) =
     rw e (ap (λ (l : List ℕ). 0 ∷ 0 ∷ 0 ∷ 0 ∷ l) (wordBytes-zeros n) ∙ replicate-append-replicate {A = ℕ} 4 (4 * n) 0)
 
 -- a word is read where its bytes stand
-word-at : (n : ℕ) (ws : List ℕ) → Words ws → n < length ws → beAt 4 (4 * n) (fips.wordBytes ws) ≡ getD ws n 0
+pub word-at : (n : ℕ) (ws : List ℕ) → Words ws → n < length ws → beAt 4 (4 * n) (fips.wordBytes ws) ≡ getD ws n 0
 unfolding fips.wordBytes
 word-at n [] b h = absurd (omega arith)
 word-at zero (w ∷ ws) b h = beAt-here 4 w (fips.wordBytes ws) (b .at 0)
