@@ -1,6 +1,6 @@
 -- The rules of the written tables, at every entry: one test computed over a whole table, and a lemma that carries it to any
 -- entry (FIPS 197 5.1.1, 5.2, 5.3.2). Assumes nothing.
-use mathlib.Core.Path.{_≡_, refl, ap, _∙_}
+use mathlib.Core.Path.{_≡_, refl, sym, ap, _∙_}
 use mathlib.Core.Logic.{⊎-elim}
 use mathlib.Core.Bool.{Bool, true, false, _&&_, _||_}
 use mathlib.Core.List.{List, [], _∷_}
@@ -126,6 +126,11 @@ sub-byte = look-byte sbox length-sbox sbox-bytes
 
 pub invSub-byte : (x : ℕ) → x < 256 → look invSbox x < 256
 invSub-byte = look-byte invSbox length-invSbox invSbox-bytes
+
+-- ---- the inverse table by its own rule: the byte whose inverse in the field, turned, is x (5.3.2)
+
+pub invSub-rule : (x : ℕ) → x < 256 → substituted (look invSbox x) ≡ x
+invSub-rule x l = sym (sub-rule (look invSbox x) (invSub-byte x l)) ∙ resub x
 
 -- ---- the round constants are the powers of x
 
