@@ -13,7 +13,7 @@ use Rattle.octets.proofs.Below.{nil-bytes, cons-below}
 use Rattle.octets.proofs.Numbers.{leBytes-le}
 use Rattle.aes.specs.Field.{xor, double, mul}
 use Rattle.aes.specs.Cipher.{tabulate, row, columns, addRoundKey}
-use Rattle.aes.specs.Products.{entry, laid, share, Laid, Shares, moved}
+use Rattle.aes.specs.Products.{entry, laid, share, Laid, Shares, moved, movedWord, columnSum}
 use Rattle.aes.proofs.Sums.{assoc, comm, mul-byte}
 use Rattle.aes.proofs.Entries.{every, at}
 use Rattle.aes.proofs.Columns.{by-doubling, columns-bytes}
@@ -110,7 +110,7 @@ module _ (p q r t a b c d : ℕ) (ha : a < 256) (hb : b < 256) (hc : c < 256) (h
 
   -- what the byte x adds in row k, from what it adds in row 0
   abbrev shifted : ℕ → ℕ → ℕ
-  shifted k x = le (moved k (leBytes 4 (share p q r t x)))
+  shifted k x = movedWord k (share p q r t x)
 
   unmoved : (x : ℕ) → x < 256 → leBytes 4 (share p q r t x) ≡ times p t r q x
   unfolding share
@@ -118,20 +118,16 @@ module _ (p q r t a b c d : ℕ) (ha : a < 256) (hb : b < 256) (hc : c < 256) (h
 
   -- the four bytes' sum is the column's word
   column : xor (xor (xor (share p q r t a) (shifted 1 b)) (shifted 2 c)) (shifted 3 d) ≡ le mixed
-  unfolding share moved
+  unfolding share moved movedWord
   column = rw (unmoved b hb, unmoved c hc, unmoved d hd) words
 
--- so it is for any laid words
+-- so it is for any laid words, and the column is bytes
 pub looked-up : (p q r t : ℕ) (sub : ℕ → ℕ) (ws : List ℕ) (a b c d : ℕ) → a < 256 → b < 256 → c < 256 → d < 256 → Laid p q r t sub ws
-    → xor (xor (xor (getD ws a 0) (le (moved 1 (leBytes 4 (getD ws b 0))))) (le (moved 2 (leBytes 4 (getD ws c 0)))))
-    (le (moved 3 (leBytes 4 (getD ws d 0)))) ≡ le (columns (row p q r t) (map sub (a ∷ b ∷ c ∷ d ∷ [])))
-looked-up p q r t sub ws a b c d ha hb hc hd h =
-    rw (h .at a ha, h .at b hb, h .at c hc, h .at d hd)
-    (column p q r t (sub a) (sub b) (sub c) (sub d) (h .byte a ha) (h .byte b hb) (h .byte c hc) (h .byte d hd))
-
--- and the column is bytes
-pub looked-up-bytes : (p q r t : ℕ) (sub : ℕ → ℕ) (ws : List ℕ) (a b c d : ℕ) → a < 256 → b < 256 → c < 256 → d < 256 → Laid p q r t sub ws
-    → Bytes (columns (row p q r t) (map sub (a ∷ b ∷ c ∷ d ∷ [])))
-looked-up-bytes p q r t sub ws a b c d ha hb hc hd h =
-    columns-bytes p q r t (map sub (a ∷ b ∷ c ∷ d ∷ []))
-    (cons-below (h .byte a ha) (cons-below (h .byte b hb) (cons-below (h .byte c hc) (cons-below (h .byte d hd) nil-bytes))))
+    → let mixed = columns (row p q r t) (map sub (a ∷ b ∷ c ∷ d ∷ [])) in (columnSum ws a b c d ≡ le mixed) × Bytes mixed
+unfolding columnSum
+looked-up p q r t sub ws a b c d ha hb hc hd h = (
+  rw (h .at a ha, h .at b hb, h .at c hc, h .at d hd)
+      (column p q r t (sub a) (sub b) (sub c) (sub d) (h .byte a ha) (h .byte b hb) (h .byte c hc) (h .byte d hd)),
+  columns-bytes p q r t (map sub (a ∷ b ∷ c ∷ d ∷ []))
+      (cons-below (h .byte a ha) (cons-below (h .byte b hb) (cons-below (h .byte c hc) (cons-below (h .byte d hd) nil-bytes)))),
+)

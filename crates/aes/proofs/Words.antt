@@ -16,7 +16,7 @@ use Rattle.octets.proofs.Parts.{length-part, paste-two, paste-whole}
 use Rattle.octets.proofs.Numbers.{length-leBytes, le-nil, le-cons, le-low, le-leBytes, leBytes-le, le-append, leBytes-add}
 use Rattle.aes.specs.Field.{xor}
 use Rattle.aes.specs.Cipher.{addRoundKey, roundKey}
-use Rattle.aes.specs.Products.{moved}
+use Rattle.aes.specs.Products.{moved, movedWord}
 use Rattle.aes.proofs.States.{length-addRoundKey, addRoundKey-bytes}
 
 -- a sum of words is the sum byte by byte
@@ -57,7 +57,8 @@ moved-parts k v h =
     ap₂ _++_ (ap (drop n) parts ∙ drop-at low high n long) (ap (take n) parts ∙ take-at low high n long)
 
 -- a word's bits rotated by k bytes are its bytes moved up
-pub rotated : (k v : ℕ) → k ≤ 4 → v < 2 ^ 32 → bitOr (v * 2 ^ (8 * k) % 2 ^ 32) (v / 2 ^ (32 - 8 * k)) ≡ le (moved k (leBytes 4 v))
+pub rotated : (k v : ℕ) → k ≤ 4 → v < 2 ^ 32 → bitOr (v * 2 ^ (8 * k) % 2 ^ 32) (v / 2 ^ (32 - 8 * k)) ≡ movedWord k v
+unfolding movedWord
 rotated k v h l =
     let n = 4 - k in
     let width : 32 - 8 * k ≡ 8 * n = omega arith in

@@ -3,8 +3,8 @@ use mathlib.Core.Path.{_≡_}
 use mathlib.Core.List.{List, [], _∷_, _++_}
 use Prim.Native.Nat.{ℕ, _-_, _<_}
 use lib.ListN.{length, getD, take, drop}
-use Rattle.octets.specs.Octets.{le}
-use Rattle.aes.specs.Field.{mul}
+use Rattle.octets.specs.Octets.{le, leBytes}
+use Rattle.aes.specs.Field.{xor, mul}
 use Rattle.aes.specs.Cipher.{tabulate}
 
 -- the word of four tables' entries at x, the first one's lowest
@@ -32,3 +32,11 @@ Shares words = Laid 14 11 13 9 (λ x. x) words
 -- a word's bytes moved up by k places, in a circle: what a byte in row k adds, from what it adds in row 0
 unfoldable pub moved : ℕ → List ℕ → List ℕ
 moved k s = drop (4 - k) s ++ take (4 - k) s
+
+unfoldable pub movedWord : ℕ → ℕ → ℕ
+movedWord k v = le (moved k (leBytes 4 v))
+
+-- the words at four bytes, each moved to its byte's row, added (4.3): the column, where the words are a matrix's shares
+unfoldable pub columnSum : List ℕ → ℕ → ℕ → ℕ → ℕ → ℕ
+columnSum words a b c d =
+    xor (xor (xor (getD words a 0) (movedWord 1 (getD words b 0))) (movedWord 2 (getD words c 0))) (movedWord 3 (getD words d 0))

@@ -4,7 +4,7 @@ ghost use mathlib.Core.Path.{_≡_};
 ghost use mathlib.Core.List.{[], _∷_};
 ghost use Prim.Native.Nat.{_+_, _≤_, _<_};
 ghost use lib.ListN.{length, take, drop};
-ghost use Rattle.octets.specs.Octets.{Bytes, le, leAt, leBytes};
+ghost use Rattle.octets.specs.Octets.{Bytes, le, leAt};
 ghost use Rattle.aes.specs.Products as Products;
 
 // Four bytes.
@@ -36,7 +36,7 @@ pub fn eight(s: &[u8], at: usize) -> u64
 // A word whose bytes move up by k places, in a circle.
 pub fn moved(k: u32, x: u32) -> u32
     requires { ⌜ (0 < k) × (k < 4) ⌝ }
-    ensures { λ r. ⌜ r ≡ le (Products.moved k (leBytes 4 x)) ⌝ }
+    ensures { λ r. ⌜ r ≡ Products.movedWord k x ⌝ }
 {
     (x << (8 * k)) | (x >> (32 - 8 * k))
 }

@@ -1,14 +1,10 @@
 // Multiplication by the factors of InvMixColumns (FIPS 197 4.2, 5.3.3), looked up: a table of 256 products for each of 9, 11, 13 and
 // 14, and the table of words laid from the four, in which a byte finds its whole share of a column at once. `column` sums the words of
-// any matrix.
+// any matrix (proofs/Shares.antt, `looked-up`).
 //
 // Lay the words once and lend them: laying copies the four tables.
 ghost use mathlib.Core.Path.{_≡_};
-ghost use mathlib.Core.List.{[], _∷_, map};
-ghost use Prim.Native.Nat.{ℕ};
 ghost use lib.ListN.{length, getD};
-ghost use Rattle.octets.specs.Octets.{le};
-ghost use Rattle.aes.specs.Cipher.{row, columns};
 ghost use Rattle.aes.specs.Products as Products;
 use super::packed::moved;
 use super::packed::word;
@@ -53,10 +49,10 @@ pub fn share(words: &[u32; 256], x: u8) -> u32
     words[wide(x)]
 }
 
-// A column of the matrix whose shares the words are: the sum of its four bytes' shares, each moved to the byte's row.
+// The words at a column's four bytes, each moved to the byte's row, summed: the mixed column, for the words of a matrix.
 pub fn column(words: &[u32; 256], a: u8, b: u8, c: u8, d: u8) -> u32
     requires { ⌜ length (now words) ≡ 256 ⌝ }
-    ensures { λ r. ⌜ ((p q s t : ℕ) (sub : ℕ → ℕ) → Products.Laid p q s t sub (now (words .entry)) → r ≡ le (columns (row p q s t) (map sub (a ∷ b ∷ c ∷ d ∷ [])))) ⌝ }
+    ensures { λ r. ⌜ r ≡ Products.columnSum (now (words .entry)) a b c d ⌝ }
 {
     share(words, a)
         ^ moved(1, share(words, b))

@@ -12,7 +12,7 @@ use Rattle.aes.specs.Cipher.{row, columns}
 use Rattle.aes.proofs.Sums.{comm}
 use Rattle.aes.proofs.Columns.{length-columns}
 use Rattle.aes.proofs.Words.{summed}
-use Rattle.aes.proofs.Shares.{looked-up-bytes}
+use Rattle.aes.proofs.Shares.{looked-up}
 use Rattle.columns.proofs.rounds.column.Statement.{statement}
 use Rattle.columns.proofs.rounds.column.Tie as tie
 
@@ -22,13 +22,14 @@ returns c =
     λ p q s t sub h.
     let st = c .before .before .before .before .before .before in
     let a = st .args in
-    let mixed = columns (row p q s t) (map sub (a .a ∷ a .b ∷ a .c ∷ a .d ∷ [])) in
+    let bytes = map sub (a .a ∷ a .b ∷ a .c ∷ a .d ∷ []) in
+    let mixed = columns (row p q s t) bytes in
     let key = take 4 (drop (a .at) (a .w .now)) in
     let four = c .before .before .before .four .ensures in
+    let sum = looked-up p q s t sub (a .words .now) (a .a) (a .b) (a .c) (a .d) (omega arith) (omega arith) (omega arith) (omega arith) h in
     c .before .put-le32 .ensures ∙ leBytes-over 4 _ (replicate 4 0) refl
-    ∙ ap (leBytes 4) (ap₂ xor (four .0) (c .before .before .column .ensures p q s t sub h) ∙ comm (le key) (le mixed))
-    ∙ summed 4 mixed key (length-columns (row p q s t) (map sub (a .a ∷ a .b ∷ a .c ∷ a .d ∷ []))) (length-part 4 (a .at) (a .w .now) (omega arith))
-    (looked-up-bytes p q s t sub (a .words .now) (a .a) (a .b) (a .c) (a .d) (omega arith) (omega arith) (omega arith) (omega arith) h) (four .1)
+    ∙ ap (leBytes 4) (ap₂ xor (four .0) (c .before .before .column .ensures ∙ sum .0) ∙ comm (le key) (le mixed))
+    ∙ summed 4 mixed key (length-columns (row p q s t) bytes) (length-part 4 (a .at) (a .w .now) (omega arith)) (sum .1) (four .1)
 
 pub column-spec : {M : Type 1} → statement M
 column-spec = tie.close (tie.spec (λ c. search needs) (λ c κs. search needs) (λ c κs. search needs) (λ c κs. search needs) returns)
