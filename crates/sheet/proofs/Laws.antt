@@ -63,7 +63,7 @@ module _ (info password : List ℕ) where
 
     pub open-answer : opened info password s out .reply .answer ≡ firstOf (openRules info password s (length out))
     unfolding opened
-    open-answer = ended-answer _ (streamSize s) (packageOf info password s) out
+    open-answer = ended-answer _ _ _ _
 
     pub open-by-verdict : (judged info password ≡ 0 → ⊥) → opened info password s out ≡ left (reply (judged info password) 0) out
     unfolding opened openRules judged
@@ -97,7 +97,7 @@ module _ (info password : List ℕ) where
 
     pub seal-answer : sealed info password pack given extra out .reply .answer ≡ firstOf (sealRules info password extra (length pack) (length out))
     unfolding sealed
-    seal-answer = ended-answer _ (sealedSize extra (length pack)) stream out
+    seal-answer = ended-answer _ _ _ _
 
     pub seal-by-verdict : (judged info password ≡ 0 → ⊥) → sealed info password pack given extra out ≡ left (reply (judged info password) 0) out
     unfolding sealed sealRules judged

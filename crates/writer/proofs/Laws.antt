@@ -125,7 +125,7 @@ module _ (bits : ℕ) (password name salt verifier filling out : List ℕ) where
 
   pub write-answer : given .reply .answer ≡ answer
   unfolding written
-  write-answer = ended-answer answer (infoSize (length name)) (infoOf bits password name salt verifier filling) out
+  write-answer = ended-answer _ _ _ _
 
   pub write-refused : (answer ≡ 0 → ⊥) → given ≡ left (reply answer 0) out
   unfolding written

@@ -14,13 +14,13 @@ use Rattle.columns.proofs.cipher.Statement.{statement}
 use Rattle.columns.proofs.cipher.Tie as tie
 
 abbrev Inv-loop : tie.InvT-loop
-Inv-loop w rounds table words s₀ n₀ s n = (0 < n) × (n ≤ rounds) × (length s ≡ 16) × (s ≡ Cipher.rounds (Cipher.roundKey w) (n - 1) s₀)
+Inv-loop w rounds table words s₀ n₀ s n = (s ≡ Cipher.rounds (Cipher.roundKey w) (n - 1) s₀) × (0 < n) × (n ≤ rounds) × (length s ≡ 16)
 
 abbrev μ-loop : tie.MeasureT-loop
 μ-loop w rounds table words s₀ n₀ s n = rounds - n
 
 loop-holds : tie.Need-loop-holds Inv-loop μ-loop
-loop-holds c = (omega arith, omega arith, search needs, sym (rounds-none _ _))
+loop-holds c = (sym (rounds-none _ _), omega arith, omega arith, search needs)
 
 round-requires : tie.Need-round-requires Inv-loop μ-loop
 round-requires c κs = let p = c .before .before .before .before .pre in (p .1 .1 .long, p .0 .2, omega arith)
@@ -34,8 +34,8 @@ loop-again c =
     let turn : c .round .result ≡ Cipher.round key (at .n) (at .s) =
     c .round .ensures 2 3 1 1 (look sbox) (st .pre .1 .1)
     ∙ ap (λ u. Cipher.addRoundKey (Cipher.columns (Cipher.row 2 3 1 1) (map (look sbox) u)) (key (at .n))) (c .before .shift-rows .ensures)
-    ∙ by-round key (at .n) (at .s) (at .inv .2) in
-    (omega arith, omega arith, search needs, rw e (turn ∙ ap (Cipher.round key (at .n)) (at .inv .3) ∙ sym (rounds-more key (at .n) _ (at .inv .0))))
+    ∙ by-round key (at .n) (at .s) (at .inv .3) in
+    (rw e (turn ∙ ap (Cipher.round key (at .n)) (at .inv .0) ∙ sym (rounds-more key (at .n) _ (at .inv .1))), omega arith, omega arith, search needs)
 
 sub-bytes-requires : tie.Need-sub-bytes-requires Inv-loop μ-loop
 sub-bytes-requires c κs = ap length (c .before .before .before .pre .1 .0) ∙ length-sbox
@@ -49,7 +49,7 @@ returns c =
       c .add-round-key2 .ensures,
       c .before .shift-rows2 .ensures,
       c .before .before .sub-bytes .ensures,
-      at .inv .3,
+      at .inv .0,
       c .before .before .before .before .before .add-round-key .ensures,
       st .pre .1 .0,
       all,
