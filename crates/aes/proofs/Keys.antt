@@ -14,14 +14,14 @@ use Rattle.octets.specs.Octets.{Bytes}
 use Rattle.octets.proofs.Below.{append-below, replicate-below}
 use Rattle.answers.specs.Rules.{OneOf}
 use Rattle.answers.proofs.Laws.{either}
-use Rattle.aes.specs.Cipher.{roundKey, cipher, invCipher}
-use Rattle.aes.specs.Expansion.{roundsFor, schedule}
+use Rattle.fips197.specs.Cipher.{roundKey, cipher, invCipher}
+use Rattle.fips197.specs.Expansion.{roundsFor, schedule}
 use Rattle.aes.specs.Aes.{keyLength, roundCount, wordsOf, encryption, decryption, doneBlock, refusedBlock, encrypted, decrypted, expanded, encryptedBy, decryptedBy}
 use Rattle.aes.specs.declared.Expanded.{Expanded}
 use Rattle.aes.specs.declared.Reply.{Reply}
-use Rattle.aes.proofs.States.{roundKey-bytes}
-use Rattle.aes.proofs.Schedule.{length-schedule, schedule-bytes}
-use Rattle.aes.proofs.Undo.{invCipher-cipher, cipher-invCipher, length-cipher, length-invCipher, cipher-bytes, invCipher-bytes, cipher-same, invCipher-same}
+use Rattle.fips197.proofs.States.{roundKey-bytes}
+use Rattle.fips197.proofs.Schedule.{length-schedule, schedule-bytes}
+use Rattle.fips197.proofs.Undo.{invCipher-cipher, cipher-invCipher, length-cipher, length-invCipher, cipher-bytes, invCipher-bytes, cipher-same, invCipher-same}
 
 -- ---- one of three numbers
 

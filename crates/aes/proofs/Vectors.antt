@@ -5,10 +5,10 @@ use mathlib.Core.Bool.{true}
 use mathlib.Core.List.{List, [], _∷_, map}
 use Prim.Native.Nat.{ℕ}
 use lib.ListN.{length, getD, replicate}
-use Rattle.aes.specs.Field.{xor, double, bit, mulBy, mul}
-use Rattle.aes.specs.Tables.{look, sbox, roundConstants, roundConstant}
-use Rattle.aes.specs.Cipher.{subBytes, tabulate, shift, shiftRows, row, columns, mixColumns, addRoundKey, roundKey, round, rounds, cipher}
-use Rattle.aes.specs.Expansion.{keyWord, rotWord, turned, next, longerKey, extended, roundsFor, schedule}
+use Rattle.fips197.specs.Field.{xor, double, bit, mulBy, mul}
+use Rattle.fips197.specs.Tables.{look, sbox, roundConstants, roundConstant}
+use Rattle.fips197.specs.Cipher.{subBytes, tabulate, shift, shiftRows, row, columns, mixColumns, addRoundKey, roundKey, round, rounds, cipher}
+use Rattle.fips197.specs.Expansion.{keyWord, rotWord, turned, next, longerKey, extended, roundsFor, schedule}
 use Rattle.aes.specs.declared.Reply.{Reply}
 use Rattle.aes.specs.Aes.{keyLength, wordsOf, encryption, doneBlock, refusedBlock, encrypted, decrypted}
 use Rattle.aes.proofs.Keys.{decrypted-encrypted}

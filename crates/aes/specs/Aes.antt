@@ -5,8 +5,8 @@ use mathlib.Core.List.{List, _++_}
 use Prim.Native.Nat.{ℕ, _+_, _-_, _*_, _/_}
 use lib.Dec.{eqb}
 use lib.ListN.{length, replicate}
-use Rattle.aes.specs.Cipher.{roundKey, cipher, invCipher}
-use Rattle.aes.specs.Expansion.{roundsFor, schedule}
+use Rattle.fips197.specs.Cipher.{roundKey, cipher, invCipher}
+use Rattle.fips197.specs.Expansion.{roundsFor, schedule}
 use Rattle.aes.specs.declared.Expanded.{Expanded}
 use Rattle.aes.specs.declared.Reply.{Reply}
 

@@ -1,6 +1,1 @@
-pub mod Field
-pub mod Tables
-pub mod Cipher
-pub mod Products
-pub mod Expansion
 pub mod Aes

@@ -4,8 +4,8 @@ ghost use mathlib.Core.List.{_++_};
 ghost use Prim.Native.Nat.{_+_, _-_, _*_, _<_, _≤_};
 ghost use lib.ListN.{length, take, drop, replicate};
 ghost use lib.Seq.{paste};
-ghost use Rattle.aes.specs.Tables as Tables;
-ghost use Rattle.aes.specs.Expansion as Expansion;
+ghost use Rattle.fips197.specs.Tables as Tables;
+ghost use Rattle.fips197.specs.Expansion as Expansion;
 use super::tables::round_constant;
 use super::tables::sub_word;
 

@@ -1,7 +1,7 @@
 // AES: the block cipher of FIPS 197, both directions, for keys of 16, 24 and 32 bytes.
 //
 // Every function gives exactly what specs/Aes.antt says, for every input: `encrypt` and `decrypt` answer 0 with the block, or 8
-// with sixteen zeros for a key of another length. Each undoes the other (proofs/Undo.antt).
+// with sixteen zeros for a key of another length. Each undoes the other (fips197/proofs/Undo.antt).
 //
 // Warning: the bytes of a block and of a key are looked up in tables, so the time taken can betray them to whoever shares the
 // processor's cache. A single block is not a way to encrypt a message.
@@ -11,16 +11,12 @@
 //         let opened = aes::decrypt(&key, sealed.block);
 //     }
 //
-// A stream expands its key once; `columns` has the ciphers for it. `rounds::cipher` and `rounds::inv_cipher` do a lone block's work: the
+// A stream expands its key once; `columns` has the ciphers for it. `steps::cipher` and `steps::inv_cipher` do a lone block's work: the
 // one doubles, the other lays the shares of `products`, and neither mixes a key.
 ghost use mathlib.Core.Path.{_≡_};
 ghost use Rattle.aes.specs.Aes as Aes;
 
 mod expansion;
-pub mod field;
-pub mod packed;
-pub mod products;
-pub mod rounds;
 pub mod tables;
 
 // The round keys, 16 bytes each and zeros after the last, with the number of rounds.
@@ -85,7 +81,7 @@ pub fn encrypt_block(key: Expanded, block: [u8; 16]) -> Reply
         10 | 12 | 14 => {
             let w = key.bytes;
             let table = tables::SBOX;
-            accepted(rounds::cipher(&w, rounds, &table, block))
+            accepted(steps::cipher(&w, rounds, &table, block))
         }
         _ => refusal(),
     }
@@ -101,7 +97,7 @@ pub fn decrypt_block(key: Expanded, block: [u8; 16]) -> Reply
             let w = key.bytes;
             let table = tables::INV_SBOX;
             let shares = products::shares();
-            accepted(rounds::inv_cipher(&w, rounds, &table, &shares, block))
+            accepted(steps::inv_cipher(&w, rounds, &table, &shares, block))
         }
         _ => refusal(),
     }

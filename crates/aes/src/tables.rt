@@ -1,35 +1,21 @@
-// The substitution tables and the round constants (FIPS 197 5.1.1, 5.3.2, 5.2), and look-ups in a lent table.
+// The substitution tables and the round constants (FIPS 197 5.1.1, 5.3.2, 5.2).
 //
 // A constant table that is indexed where it stands is laid anew at every look-up: copy it into a local once and lend that.
 ghost use mathlib.Core.Path.{_≡_};
 ghost use mathlib.Core.List.{map};
 ghost use Prim.Native.Nat.{_<_, _≤_};
 ghost use lib.ListN.{length};
-ghost use Rattle.aes.specs.Tables as Tables;
+ghost use Rattle.fips197.specs.Tables as Tables;
 
 mod forward;
 mod inverse;
 
 pub use forward::SBOX;
 pub use inverse::INV_SBOX;
+use steps::look;
 
 // The powers of x that the key expansion adds.
 const ROUND_CONSTANTS: [u8; 10] = [0x01, 0x02, 0x04, 0x08, 0x10, 0x20, 0x40, 0x80, 0x1b, 0x36];
-
-// A byte as a place in a table.
-pub(crate) fn wide(x: u8) -> usize
-    ensures { λ r. ⌜ (r ≡ x) × (r < 256) ⌝ }
-{
-    x as usize
-}
-
-// The table's entry at x.
-pub(crate) fn look(table: &[u8; 256], x: u8) -> u8
-    requires { ⌜ length (now table) ≡ 256 ⌝ }
-    ensures { λ r. ⌜ r ≡ Tables.look (now (table .entry)) x ⌝ }
-{
-    table[wide(x)]
-}
 
 // The entries at the four bytes of a word.
 pub(crate) fn sub_word(table: &[u8; 256], t: [u8; 4]) -> [u8; 4]

@@ -2,8 +2,8 @@
 ghost use mathlib.Core.Path.{_≡_};
 ghost use Prim.Native.Nat.{_+_, _<_, _≤_};
 ghost use lib.ListN.{length};
-ghost use Rattle.aes.specs.Tables.{sbox, invSbox};
-ghost use Rattle.aes.specs.Cipher.{invMixColumns};
+ghost use Rattle.fips197.specs.Tables.{sbox, invSbox};
+ghost use Rattle.fips197.specs.Cipher.{invMixColumns};
 ghost use Rattle.columns.specs.Columns.{Forward, Inverse};
 
 // The block at `at`.

@@ -40,7 +40,7 @@ pub extern "C" fn bench_decrypt(key: &[u8], buf: &mut [u8]) -> u64 {
     }
     let w = e.bytes;
     let table = aes::tables::INV_SBOX;
-    let shares = aes::products::shares();
+    let shares = products::shares();
     let words = columns::inverse(&table, &shares);
     let mixed = columns::mixed(&w, &shares);
     blocks::decrypt(&w, &mixed, rounds, &table, &words, buf);

@@ -6,7 +6,7 @@ use Prim.Native.Nat.{ℕ, _*_, _/_, _≤_, _<_}
 use native.Mathlib.Omega.{arith}
 use lib.ListN.{length}
 use Rattle.octets.specs.Octets.{Bytes}
-use Rattle.aes.specs.Expansion.{roundsFor}
+use Rattle.fips197.specs.Expansion.{roundsFor}
 use Rattle.aes.specs.Aes.{keyLength, encryption, decryption, expanded}
 use Rattle.aes.specs.declared.Expanded.{Expanded}
 use Rattle.aes.proofs.Keys.{fits, expanded-fit, cipher-expanded, invCipher-expanded, decryption-encryption, encryption-decryption, length-encryption, length-decryption, encryption-bytes, decryption-bytes}

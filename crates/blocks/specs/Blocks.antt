@@ -4,7 +4,7 @@ use mathlib.Core.List.{List, [], _++_}
 use Prim.Native.Nat.{ℕ, zero, suc, _*_, _/_, _%_}
 use lib.Dec.{eqb}
 use lib.ListN.{length, take, drop}
-use Rattle.aes.specs.Cipher.{roundKey, cipher, invCipher}
+use Rattle.fips197.specs.Cipher.{roundKey, cipher, invCipher}
 use Rattle.aes.specs.declared.Expanded.{Expanded}
 
 -- the lengths of one block, and of whole blocks

@@ -7,12 +7,11 @@ ghost use mathlib.Core.List.{_++_};
 ghost use Prim.Native.Nat.{_+_, _*_, _/_, _%_, _<_, _≤_, min};
 ghost use lib.ListN.{length, take, drop};
 ghost use lib.Seq.{paste};
-ghost use Rattle.aes.specs.Tables.{sbox, invSbox};
-ghost use Rattle.aes.specs.Cipher.{invMixColumns, roundKey, cipher, invCipher};
+ghost use Rattle.fips197.specs.Tables.{sbox, invSbox};
+ghost use Rattle.fips197.specs.Cipher.{invMixColumns, roundKey, cipher, invCipher};
 ghost use Rattle.columns.specs.Columns.{Forward, Inverse};
 ghost use Rattle.blocks.specs.Blocks.{ecb, encrypting, decrypting};
 use aes::Expanded;
-use aes::products;
 use aes::tables;
 
 // The sixteen bytes of s at `at`.

@@ -6,9 +6,9 @@ use native.Mathlib.Omega.{arith}
 use lib.ListN.{length, take, drop, replicate}
 use lib.Seq.{paste, paste-zero, take-all}
 use Rattle.octets.proofs.Parts.{paste-on, paste-whole}
-use Rattle.aes.specs.Cipher.{invMixColumns, roundKey}
-use Rattle.aes.proofs.Columns.{length-invMixColumns}
-use Rattle.aes.proofs.Equivalent.{roundKey-is, length-roundKey, mixed-key}
+use Rattle.fips197.specs.Cipher.{invMixColumns, roundKey}
+use Rattle.fips197.proofs.Columns.{length-invMixColumns}
+use Rattle.fips197.proofs.Equivalent.{roundKey-is, length-roundKey, mixed-key}
 
 module _ (w : List ℕ) (long : length w ≡ 240) where
   -- the first n keys are laid

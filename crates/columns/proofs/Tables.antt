@@ -5,11 +5,11 @@ use Prim.Native.Nat.{ℕ, _<_}
 use native.Mathlib.Omega.{arith}
 use lib.ListN.{length, getD}
 use Rattle.octets.specs.Octets.{Bytes}
-use Rattle.aes.specs.Tables.{look}
-use Rattle.aes.specs.Products.{share, Laid}
-use Rattle.aes.specs.Cipher.{tabulate}
-use Rattle.aes.proofs.Entries.{look-in}
-use Rattle.aes.proofs.Shares.{laid-by}
+use Rattle.fips197.specs.Tables.{look}
+use Rattle.fips197.specs.Products.{share, Laid}
+use Rattle.fips197.specs.Cipher.{tabulate}
+use Rattle.fips197.proofs.Entries.{look-in}
+use Rattle.fips197.proofs.Shares.{laid-by}
 
 -- the share at the byte that stands at x
 abbrev pub at : List ℕ → List ℕ → ℕ → ℕ

@@ -2,8 +2,8 @@
 -- 5.3.3). Assumes nothing.
 use mathlib.Core.List.{List}
 use Prim.Native.Nat.{ℕ}
-use Rattle.aes.specs.Tables.{look, sbox, invSbox}
-use Rattle.aes.specs.Products.{Laid}
+use Rattle.fips197.specs.Tables.{look, sbox, invSbox}
+use Rattle.fips197.specs.Products.{Laid}
 
 -- those of the cipher, and of the inverse cipher
 abbrev pub Forward : List ℕ → Type 0

@@ -9,27 +9,27 @@
 //     let words = columns::forward(&table);
 //     let sealed = columns::cipher(&w, rounds, &table, &words, block);
 //
-// Lay the words and mix the keys once a stream, and lend them: for a lone block that costs more than it saves, and `aes` has the
+// Lay the words and mix the keys once a stream, and lend them: for a lone block that costs more than it saves, and `steps` has the
 // ciphers that do without.
 //
 // Warning: as in `aes`, the time that a look-up takes can betray the byte to whoever shares the processor's cache.
 ghost use mathlib.Core.Path.{_≡_};
 ghost use Prim.Native.Nat.{_<_, _≤_};
 ghost use lib.ListN.{length};
-ghost use Rattle.aes.specs.Tables as Tables;
-ghost use Rattle.aes.specs.Cipher as Cipher;
-ghost use Rattle.aes.specs.Products as Products;
+ghost use Rattle.fips197.specs.Tables as Tables;
+ghost use Rattle.fips197.specs.Cipher as Cipher;
+ghost use Rattle.fips197.specs.Products as Products;
 ghost use Rattle.columns.specs.Columns as Columns;
 
 mod rounds;
 mod words;
 
-use aes::rounds::add_round_key;
-use aes::rounds::inv_mix_columns;
-use aes::rounds::inv_shift_rows;
-use aes::rounds::shift_rows;
-use aes::rounds::sub_bytes;
 use rounds::round;
+use steps::add_round_key;
+use steps::inv_mix_columns;
+use steps::inv_shift_rows;
+use steps::shift_rows;
+use steps::sub_bytes;
 pub use words::forward;
 pub use words::inverse;
 

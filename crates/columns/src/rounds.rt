@@ -3,10 +3,10 @@ ghost use mathlib.Core.Path.{_≡_};
 ghost use mathlib.Core.List.{[], _∷_, map};
 ghost use Prim.Native.Nat.{ℕ, _+_, _≤_};
 ghost use lib.ListN.{length, take, drop};
-ghost use Rattle.aes.specs.Cipher as Cipher;
-ghost use Rattle.aes.specs.Products.{Laid};
-use aes::packed::four;
-use aes::rounds::joined;
+ghost use Rattle.fips197.specs.Cipher as Cipher;
+ghost use Rattle.fips197.specs.Products.{Laid};
+use products::packed::four;
+use steps::joined;
 
 // Round key n.
 pub fn key(w: &[u8; 240], n: usize) -> [u8; 16]
@@ -28,7 +28,7 @@ fn column(words: &[u32; 256], w: &[u8; 240], at: usize, a: u8, b: u8, c: u8, d: 
     octets::put_le32(
         &mut bytes,
         0,
-        four(w, at) ^ aes::products::column(words, a, b, c, d),
+        four(w, at) ^ products::column(words, a, b, c, d),
     );
     bytes
 }

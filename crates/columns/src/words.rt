@@ -3,12 +3,12 @@ ghost use mathlib.Core.Path.{_≡_};
 ghost use Prim.Native.Nat.{ℕ};
 ghost use lib.ListN.{length};
 ghost use Rattle.octets.specs.Octets.{Bytes};
-ghost use Rattle.aes.specs.Tables as Tables;
-ghost use Rattle.aes.specs.Products.{Laid, Shares};
+ghost use Rattle.fips197.specs.Tables as Tables;
+ghost use Rattle.fips197.specs.Products.{Laid, Shares};
 ghost use Rattle.columns.specs.Columns as Columns;
-use aes::field::double;
-use aes::packed::word;
-use aes::products::share;
+use products::field::double;
+use products::packed::word;
+use products::share;
 
 // Each byte's share of a column of MixColumns: 2, 1, 1 and 3 times the byte.
 fn shares() -> [u32; 256]

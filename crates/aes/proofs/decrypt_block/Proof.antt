@@ -1,7 +1,7 @@
 -- The three numbers of rounds go to the one inverse cipher over any number.
 use mathlib.Core.Path.{refl, _∙_}
-use Rattle.aes.specs.Tables.{invSbox}
-use Rattle.aes.specs.Cipher.{invCipher}
+use Rattle.fips197.specs.Tables.{invSbox}
+use Rattle.fips197.specs.Cipher.{invCipher}
 use Rattle.aes.specs.Aes.{decryptedBy}
 use Rattle.aes.proofs.Keys.{within, answered, unanswered}
 use borrow.Author.Needs.{needs}

@@ -1,7 +1,7 @@
 -- The three numbers of rounds go to the one cipher over any number.
 use mathlib.Core.Path.{refl, _∙_}
-use Rattle.aes.specs.Tables.{sbox}
-use Rattle.aes.specs.Cipher.{cipher}
+use Rattle.fips197.specs.Tables.{sbox}
+use Rattle.fips197.specs.Cipher.{cipher}
 use Rattle.aes.specs.Aes.{encryptedBy}
 use Rattle.aes.proofs.Keys.{within, answered, unanswered}
 use borrow.Author.Needs.{needs}

@@ -1,9 +1,9 @@
 -- The three lengths go to the one expansion over the number of words.
 use mathlib.Core.Path.{refl, sym}
 use lib.ListN.{length}
-use Rattle.aes.specs.Tables.{sbox}
+use Rattle.fips197.specs.Tables.{sbox}
 use Rattle.aes.specs.Aes.{keyLength, wordsOf}
-use Rattle.aes.specs.Expansion.{roundsFor}
+use Rattle.fips197.specs.Expansion.{roundsFor}
 use Rattle.aes.proofs.Keys.{Suits, fits, listed, unlisted, expanded-fit, expanded-other}
 use borrow.Author.Needs.{needs}
 use Rattle.aes.proofs.expand.Statement.{statement}

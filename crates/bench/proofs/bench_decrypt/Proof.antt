@@ -3,7 +3,7 @@ use mathlib.Core.Path.{refl, ap, _∙_}
 use native.Mathlib.Omega.{arith}
 use borrow.Author.Needs.{needs}
 use lib.ListN.{length}
-use Rattle.aes.specs.Tables.{invSbox}
+use Rattle.fips197.specs.Tables.{invSbox}
 use Rattle.aes.specs.declared.Expanded.{Expanded}
 use Rattle.aes.proofs.Keys.{length-expanded}
 use Rattle.bench.proofs.bench_decrypt.Statement.{statement}

@@ -3,7 +3,7 @@ use mathlib.Core.Path.{refl, ap, _∙_}
 use native.Mathlib.Omega.{arith}
 use borrow.Author.Needs.{needs}
 use lib.ListN.{length}
-use Rattle.aes.specs.Tables.{sbox}
+use Rattle.fips197.specs.Tables.{sbox}
 use Rattle.aes.specs.declared.Expanded.{Expanded}
 use Rattle.aes.proofs.Keys.{length-expanded}
 use Rattle.bench.proofs.bench_encrypt.Statement.{statement}

@@ -2,7 +2,7 @@
 use mathlib.Core.Path.{_≡_, refl}
 use borrow.Author.Needs.{needs}
 use lib.ListN.{length}
-use Rattle.aes.specs.Tables.{invSbox}
+use Rattle.fips197.specs.Tables.{invSbox}
 use Rattle.blocks.specs.Blocks.{decrypting}
 use Rattle.blocks.proofs.decrypt.Statement.{statement}
 use Rattle.blocks.proofs.decrypt.Tie as tie

@@ -5,8 +5,8 @@ use native.Mathlib.Omega.{arith}
 use borrow.Author.Needs.{needs}
 use lib.ListN.{length}
 use lib.Seq.{paste, paste-zero}
-use Rattle.aes.specs.Cipher.{roundKey, invCipher}
-use Rattle.aes.proofs.Undo.{length-invCipher}
+use Rattle.fips197.specs.Cipher.{roundKey, invCipher}
+use Rattle.fips197.proofs.Undo.{length-invCipher}
 use Rattle.blocks.specs.Blocks.{ecb}
 use Rattle.blocks.proofs.Loops.{turn}
 use Rattle.blocks.proofs.decrypt_with.Statement.{statement}

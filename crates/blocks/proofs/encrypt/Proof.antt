@@ -1,7 +1,7 @@
 -- The key, the table and the filling are copied once, the words laid once, and all are lent.
 use mathlib.Core.Path.{refl}
 use borrow.Author.Needs.{needs}
-use Rattle.aes.specs.Tables.{sbox}
+use Rattle.fips197.specs.Tables.{sbox}
 use Rattle.blocks.specs.Blocks.{encrypting}
 use Rattle.blocks.proofs.encrypt.Statement.{statement}
 use Rattle.blocks.proofs.encrypt.Tie as tie

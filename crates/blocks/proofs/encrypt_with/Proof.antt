@@ -8,8 +8,8 @@ use borrow.Author.Needs.{needs}
 use lib.ListN.{length, take, length-append}
 use lib.Seq.{paste, paste-zero, length-take-le}
 use Rattle.octets.proofs.Parts.{part-part}
-use Rattle.aes.specs.Cipher.{roundKey, cipher}
-use Rattle.aes.proofs.Undo.{length-cipher}
+use Rattle.fips197.specs.Cipher.{roundKey, cipher}
+use Rattle.fips197.proofs.Undo.{length-cipher}
 use Rattle.blocks.specs.Blocks.{ecb}
 use Rattle.blocks.proofs.Loops.{turn}
 use Rattle.blocks.proofs.encrypt_with.Statement.{statement}

@@ -5,11 +5,11 @@ use Prim.Native.Nat.{_+_, _-_, _<_, _≤_}
 use native.Mathlib.Omega.{arith}
 use borrow.Author.Needs.{needs}
 use lib.ListN.{length}
-use Rattle.aes.specs.Tables.{look, sbox}
-use Rattle.aes.specs.Cipher as Cipher
-use Rattle.aes.proofs.Entries.{length-sbox}
-use Rattle.aes.proofs.Steps.{rounds-none, rounds-more}
-use Rattle.aes.proofs.Equivalent.{by-round, cipher-last}
+use Rattle.fips197.specs.Tables.{look, sbox}
+use Rattle.fips197.specs.Cipher as Cipher
+use Rattle.fips197.proofs.Entries.{length-sbox}
+use Rattle.fips197.proofs.Steps.{rounds-none, rounds-more}
+use Rattle.fips197.proofs.Equivalent.{by-round, cipher-last}
 use Rattle.columns.proofs.cipher.Statement.{statement}
 use Rattle.columns.proofs.cipher.Tie as tie
 

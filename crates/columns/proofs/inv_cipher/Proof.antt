@@ -5,11 +5,11 @@ use Prim.Native.Nat.{ℕ, _-_, _<_}
 use native.Mathlib.Omega.{arith}
 use borrow.Author.Needs.{needs}
 use lib.ListN.{length}
-use Rattle.aes.specs.Tables.{look, invSbox}
-use Rattle.aes.specs.Cipher as Cipher
-use Rattle.aes.proofs.Entries.{length-invSbox}
-use Rattle.aes.proofs.Steps.{invRounds-less, invRounds-done}
-use Rattle.aes.proofs.Equivalent.{by-invRound, invCipher-last}
+use Rattle.fips197.specs.Tables.{look, invSbox}
+use Rattle.fips197.specs.Cipher as Cipher
+use Rattle.fips197.proofs.Entries.{length-invSbox}
+use Rattle.fips197.proofs.Steps.{invRounds-less, invRounds-done}
+use Rattle.fips197.proofs.Equivalent.{by-invRound, invCipher-last}
 use Rattle.columns.proofs.inv_cipher.Statement.{statement}
 use Rattle.columns.proofs.inv_cipher.Tie as tie
 

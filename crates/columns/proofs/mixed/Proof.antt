@@ -4,7 +4,7 @@ use Prim.Native.Nat.{_-_, _≤_}
 use native.Mathlib.Omega.{arith}
 use borrow.Author.Needs.{needs}
 use lib.ListN.{length}
-use Rattle.aes.specs.Cipher.{invMixColumns}
+use Rattle.fips197.specs.Cipher.{invMixColumns}
 use Rattle.columns.proofs.Keys.{Done, done-none, done-more, done-all}
 use Rattle.columns.proofs.mixed.Statement.{statement}
 use Rattle.columns.proofs.mixed.Tie as tie

@@ -1,10 +1,10 @@
 -- The word nk places back, and what the word before adds to it.
 use mathlib.Core.Path.{_≡_, ap, ap₂, _∙_}
 use lib.ListN.{length}
-use Rattle.aes.specs.Field.{xor}
-use Rattle.aes.specs.Cipher.{addRoundKey}
-use Rattle.aes.specs.Expansion.{keyWord, turned, next}
-use Rattle.aes.proofs.Schedule.{word-added}
+use Rattle.fips197.specs.Field.{xor}
+use Rattle.fips197.specs.Cipher.{addRoundKey}
+use Rattle.fips197.specs.Expansion.{keyWord, turned, next}
+use Rattle.fips197.proofs.Schedule.{word-added}
 use borrow.Author.Needs.{needs}
 use Rattle.aes.proofs.expansion.next.Statement.{statement}
 use Rattle.aes.proofs.expansion.next.Tie as tie

@@ -5,8 +5,8 @@ use Prim.Native.Nat.{_+_, _-_, _*_, _≤_}
 use native.Mathlib.Omega.{arith}
 use borrow.Author.Needs.{needs}
 use lib.ListN.{length, replicate}
-use Rattle.aes.specs.Expansion as Expansion
-use Rattle.aes.proofs.Schedule.{extended-more, extended-all, extended-none}
+use Rattle.fips197.specs.Expansion as Expansion
+use Rattle.fips197.proofs.Schedule.{extended-more, extended-all, extended-none}
 use Rattle.aes.proofs.expansion.schedule.Statement.{statement}
 use Rattle.aes.proofs.expansion.schedule.Tie as tie
 

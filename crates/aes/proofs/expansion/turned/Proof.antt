@@ -1,9 +1,9 @@
 -- The three cases of the document, by the place of word i among its nk.
 use mathlib.Core.Path.{_≡_, ap, _∙_}
 use lib.ListN.{length}
-use Rattle.aes.specs.Field.{xor}
-use Rattle.aes.proofs.Entries.{length-sbox}
-use Rattle.aes.proofs.Schedule.{constant-place, turned-first, turned-half, turned-other, turned-short}
+use Rattle.fips197.specs.Field.{xor}
+use Rattle.fips197.proofs.Entries.{length-sbox}
+use Rattle.fips197.proofs.Schedule.{constant-place, turned-first, turned-half, turned-other, turned-short}
 use borrow.Author.Needs.{needs}
 use Rattle.aes.proofs.expansion.turned.Statement.{statement}
 use Rattle.aes.proofs.expansion.turned.Tie as tie

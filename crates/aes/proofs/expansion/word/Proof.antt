@@ -1,5 +1,5 @@
 -- Four bytes read one by one are the four that stand there.
-use Rattle.aes.proofs.Schedule.{word-read}
+use Rattle.fips197.proofs.Schedule.{word-read}
 use borrow.Author.Needs.{needs}
 use Rattle.aes.proofs.expansion.word.Statement.{statement}
 use Rattle.aes.proofs.expansion.word.Tie as tie

@@ -1,6 +1,6 @@
 -- Places count from 0, rounds from 1.
 use mathlib.Core.Path.{refl}
-use Rattle.aes.specs.Tables.{roundConstant, roundConstants}
+use Rattle.fips197.specs.Tables.{roundConstant, roundConstants}
 use borrow.Author.Needs.{needs}
 use Rattle.aes.proofs.tables.round_constant.Statement.{statement}
 use Rattle.aes.proofs.tables.round_constant.Tie as tie

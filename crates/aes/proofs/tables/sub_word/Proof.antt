@@ -2,8 +2,8 @@
 use mathlib.Core.Path.{_≡_, ap}
 use mathlib.Core.List.{map}
 use lib.ListN.{length}
-use Rattle.aes.specs.Tables.{look}
-use Rattle.aes.proofs.States.{opened}
+use Rattle.fips197.specs.Tables.{look}
+use Rattle.fips197.proofs.States.{opened}
 use borrow.Author.Needs.{needs}
 use Rattle.aes.proofs.tables.sub_word.Statement.{statement}
 use Rattle.aes.proofs.tables.sub_word.Tie as tie

@@ -7,12 +7,12 @@ use lib.ListN.{take, drop, replicate}
 use Rattle.octets.specs.Octets.{le, leBytes, leAt}
 use Rattle.octets.proofs.Parts.{length-part}
 use Rattle.octets.proofs.Numbers.{leBytes-over}
-use Rattle.aes.specs.Field.{xor}
-use Rattle.aes.specs.Cipher.{row, columns}
-use Rattle.aes.proofs.Sums.{comm}
-use Rattle.aes.proofs.Columns.{length-columns}
-use Rattle.aes.proofs.Words.{summed}
-use Rattle.aes.proofs.Shares.{looked-up}
+use Rattle.fips197.specs.Field.{xor}
+use Rattle.fips197.specs.Cipher.{row, columns}
+use Rattle.fips197.proofs.Sums.{comm}
+use Rattle.fips197.proofs.Columns.{length-columns}
+use Rattle.fips197.proofs.Words.{summed}
+use Rattle.fips197.proofs.Shares.{looked-up}
 use Rattle.columns.proofs.rounds.column.Statement.{statement}
 use Rattle.columns.proofs.rounds.column.Tie as tie
 

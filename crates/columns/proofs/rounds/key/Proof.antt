@@ -4,7 +4,7 @@ use Prim.Native.Nat.{_*_}
 use borrow.Author.Needs.{needs}
 use lib.ListN.{replicate, drop}
 use Rattle.octets.proofs.Parts.{paste-whole}
-use Rattle.aes.proofs.Equivalent.{roundKey-is}
+use Rattle.fips197.proofs.Equivalent.{roundKey-is}
 use Rattle.columns.proofs.rounds.key.Statement.{statement}
 use Rattle.columns.proofs.rounds.key.Tie as tie
 

@@ -3,7 +3,7 @@ use mathlib.Core.Path.{_≡_}
 use native.Mathlib.Omega.{arith}
 use borrow.Author.Needs.{needs}
 use lib.ListN.{length}
-use Rattle.aes.proofs.Equivalent.{by-keyed-columns}
+use Rattle.fips197.proofs.Equivalent.{by-keyed-columns}
 use Rattle.columns.proofs.rounds.round.Statement.{statement}
 use Rattle.columns.proofs.rounds.round.Tie as tie
 

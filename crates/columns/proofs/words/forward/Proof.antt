@@ -2,9 +2,9 @@
 use mathlib.Core.Path.{ap, subst, subst⁻¹, _∙_}
 use lib.ListN.{length}
 use Rattle.octets.specs.Octets.{Bytes}
-use Rattle.aes.specs.Tables.{look}
-use Rattle.aes.specs.Products.{Laid}
-use Rattle.aes.proofs.Entries.{length-sbox, sbox-bytes}
+use Rattle.fips197.specs.Tables.{look}
+use Rattle.fips197.specs.Products.{Laid}
+use Rattle.fips197.proofs.Entries.{length-sbox, sbox-bytes}
 use borrow.Author.Needs.{needs}
 use Rattle.columns.proofs.words.forward.Statement.{statement}
 use Rattle.columns.proofs.words.forward.Tie as tie

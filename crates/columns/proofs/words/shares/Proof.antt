@@ -3,10 +3,10 @@ use mathlib.Core.Path.{refl, subst⁻¹, _∙_}
 use Prim.Native.Nat.{_-_, _<_}
 use native.Mathlib.Omega.{arith}
 use borrow.Author.Needs.{needs}
-use Rattle.aes.specs.Field.{xor}
-use Rattle.aes.specs.Products.{share, Laid}
-use Rattle.aes.proofs.Steps.{Tabulated, filled-none, filled-more, filled-all}
-use Rattle.aes.proofs.Shares.{laid-by, mix-share}
+use Rattle.fips197.specs.Field.{xor}
+use Rattle.fips197.specs.Products.{share, Laid}
+use Rattle.fips197.proofs.Steps.{Tabulated, filled-none, filled-more, filled-all}
+use Rattle.fips197.proofs.Shares.{laid-by, mix-share}
 use Rattle.columns.proofs.words.shares.Statement.{statement}
 use Rattle.columns.proofs.words.shares.Tie as tie
 

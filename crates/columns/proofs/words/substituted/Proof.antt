@@ -3,9 +3,9 @@ use mathlib.Core.Path.{refl, subst⁻¹}
 use Prim.Native.Nat.{_-_, _<_}
 use native.Mathlib.Omega.{arith}
 use borrow.Author.Needs.{needs}
-use Rattle.aes.specs.Tables.{look}
-use Rattle.aes.specs.Products.{Laid}
-use Rattle.aes.proofs.Steps.{Tabulated, filled-none, filled-more, filled-all}
+use Rattle.fips197.specs.Tables.{look}
+use Rattle.fips197.specs.Products.{Laid}
+use Rattle.fips197.proofs.Steps.{Tabulated, filled-none, filled-more, filled-all}
 use Rattle.columns.proofs.Tables.{at, by-table}
 use Rattle.columns.proofs.words.substituted.Statement.{statement}
 use Rattle.columns.proofs.words.substituted.Tie as tie
