@@ -1,6 +1,6 @@
 -- A stream that breaks no rule keeps each of them; here they are as facts on its numbers. Assumes nothing.
 use mathlib.Core.Path.{_≡_, refl, ap}
-use mathlib.Core.Bool.{Bool, true, false, _||_, true≢false}
+use mathlib.Core.Bool.{Bool, true, false, cond, _||_, true≢false}
 use mathlib.Core.List.{List, [], _∷_}
 use mathlib.Core.Logic.{inl, inr}
 use Prim.Native.Nat.{ℕ, zero, suc, _+_, _-_, _/_, _%_, _≤_}
@@ -18,6 +18,11 @@ use Rattle.descriptor.specs.declared.Suite.{Suite}
 or-false : {a b : Bool} → (a || b) ≡ false → (a ≡ false) × (b ≡ false)
 or-false {a = true} h = absurd (true≢false h)
 or-false {a = false} h = (refl, h)
+
+-- a choice by three numbers, where it is none of them: what the last arm of a `match` gives
+pub none-of-three : {A : Type 0} (x a b c : ℕ) (p q r d : A) → (x ≡ a → ⊥) → (x ≡ b → ⊥) → (x ≡ c → ⊥)
+    → d ≡ cond (eqb x a) p (cond (eqb x b) q (cond (eqb x c) r d))
+none-of-three x a b c p q r d ha hb hc = simp (ne-eqb x a ha, ne-eqb x b hb, ne-eqb x c hc)
 
 -- the stream breaks no rule
 abbrev pub Admitted : List ℕ → Type 0

@@ -139,13 +139,17 @@ by-invRound w n s h =
     ap (addRoundKey (columns (row 14 11 13 9) x)) (mixed-key w n h)
     ∙ sym (columns-sum 14 11 13 9 4 x (roundKey w n) (length-invSubBytes (invShiftRows s) ∙ length-invShiftRows s) long)
 
--- the last round of each cipher, after the rounds before it
+-- the cipher's last round, after the rounds before it
 pub cipher-last : (key : ℕ → List ℕ) (n : ℕ) (s : List ℕ)
     → addRoundKey (shiftRows (map (look sbox) (rounds key (n - 1) (addRoundKey s (key 0))))) (key n) ≡ cipher key n s
 unfolding cipher subBytes
 cipher-last key n s = refl
 
-pub invCipher-last : (key : ℕ → List ℕ) (n : ℕ) (s : List ℕ)
-    → addRoundKey (map (look invSbox) (invShiftRows (invRounds key (n - 1) (addRoundKey s (key n))))) (key 0) ≡ invCipher key n s
-unfolding invCipher invSubBytes
-invCipher-last key n s = refl
+-- the inverse cipher where no round is left to go: the last round, after the rounds before it
+pub invCipher-last : (key : ℕ → List ℕ) (n k : ℕ) (s first block r : List ℕ) → invRounds key n s ≡ invRounds key (k - 1) first
+    → first ≡ addRoundKey block (key k) → n ≡ 0 → r ≡ addRoundKey (map (look invSbox) (invShiftRows s)) (key 0) → r ≡ invCipher key k block
+unfolding invRounds invCipher invSubBytes
+invCipher-last key n k s first block r gone begun none last =
+    let there : s ≡ invRounds key (k - 1) (addRoundKey block (key k)) =
+    ap (λ (m : ℕ). invRounds key m s) (sym none) ∙ gone ∙ ap (invRounds key (k - 1)) begun in
+    last ∙ ap (λ (u : List ℕ). addRoundKey (map (look invSbox) (invShiftRows u)) (key 0)) there

@@ -75,8 +75,3 @@ pub invRounds-less : (key : ℕ → List ℕ) (n : ℕ) (s : List ℕ) → 0 < n
 unfolding invRounds
 invRounds-less key zero s h = absurd (omega arith)
 invRounds-less key (suc n) s h = let e : suc n - 1 ≡ n = omega arith in rw e
-
--- no round left to go
-pub invRounds-done : (key : ℕ → List ℕ) (n k : ℕ) (s t : List ℕ) → n ≡ 0 → invRounds key n s ≡ invRounds key k t → s ≡ invRounds key k t
-unfolding invRounds
-invRounds-done key n k s t e h = ap (λ (m : ℕ). invRounds key m s) (sym e) ∙ h

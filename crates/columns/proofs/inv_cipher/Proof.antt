@@ -8,7 +8,7 @@ use lib.ListN.{length}
 use Rattle.fips197.specs.Tables.{look, invSbox}
 use Rattle.fips197.specs.Cipher as Cipher
 use Rattle.fips197.proofs.Entries.{length-invSbox}
-use Rattle.fips197.proofs.Steps.{invRounds-less, invRounds-done}
+use Rattle.fips197.proofs.Steps.{invRounds-less}
 use Rattle.fips197.proofs.Equivalent.{by-invRound, invCipher-last}
 use Rattle.columns.proofs.inv_cipher.Statement.{statement}
 use Rattle.columns.proofs.inv_cipher.Tie as tie
@@ -44,13 +44,8 @@ sub-bytes-requires c κs = ap length (c .before .before .before .before .pre .1 
 
 returns : tie.Need-returns Inv-loop μ-loop
 returns c =
-    let at = c .before .before .before .before .loop in
-    let st = c .before .before .before .before .before .before in
-    let key = Cipher.roundKey (st .args .w .now) in
-    let gone =
-    invRounds-done key (at .n) (st .args .rounds - 1) (at .s) _ (omega arith) (at .inv .1)
-    ∙ ap (Cipher.invRounds key (st .args .rounds - 1)) (c .before .before .before .before .before .add-round-key .ensures) in
-    rw (c .add-round-key2 .ensures, c .before .sub-bytes .ensures, c .before .before .inv-shift-rows2 .ensures, st .pre .1 .1, gone) (invCipher-last _ _ _)
+    invCipher-last _ _ _ _ _ _ _ (c .before .before .before .before .loop .inv .1) (c .before .before .before .before .before .add-round-key .ensures) (omega arith)
+    (rw (c .add-round-key2 .ensures, c .before .sub-bytes .ensures, c .before .before .inv-shift-rows2 .ensures, c .before .before .before .before .before .before .pre .1 .1))
 
 pub inv-cipher-spec : {M : Type 1} → statement M
 inv-cipher-spec =

@@ -6,7 +6,8 @@ use borrow.Author.Needs.{needs}
 use lib.ListN.{length}
 use Rattle.fips197.specs.Cipher as Cipher
 use Rattle.fips197.proofs.Entries.{length-invSbox}
-use Rattle.fips197.proofs.Steps.{invRounds-less, invRounds-done}
+use Rattle.fips197.proofs.Steps.{invRounds-less}
+use Rattle.fips197.proofs.Equivalent.{invCipher-last}
 use Rattle.steps.proofs.inv_cipher.Statement.{statement}
 use Rattle.steps.proofs.inv_cipher.Tie as tie
 
@@ -29,15 +30,9 @@ sub-bytes-requires : tie.Need-sub-bytes-requires Inv-loop μ-loop
 sub-bytes-requires c κs = ap length (c .before .before .before .before .pre .1 .0) ∙ length-invSbox
 
 returns : tie.Need-returns Inv-loop μ-loop
-unfolding Cipher.invCipher Cipher.invSubBytes
 returns c =
-    let at = c .before .before .before .before .loop in
-    let st = c .before .before .before .before .before .before in
-    let key = Cipher.roundKey (st .args .w .now) in
-    let gone =
-    invRounds-done key (at .n) (st .args .rounds - 1) (at .s) _ (omega arith) (at .inv .1)
-    ∙ ap (Cipher.invRounds key (st .args .rounds - 1)) (c .before .before .before .before .before .add-round-key .ensures) in
-    rw (c .add-round-key2 .ensures, c .before .sub-bytes .ensures, c .before .before .inv-shift-rows .ensures, st .pre .1 .0, gone)
+    invCipher-last _ _ _ _ _ _ _ (c .before .before .before .before .loop .inv .1) (c .before .before .before .before .before .add-round-key .ensures) (omega arith)
+    (rw (c .add-round-key2 .ensures, c .before .sub-bytes .ensures, c .before .before .inv-shift-rows .ensures, c .before .before .before .before .before .before .pre .1 .0))
 
 pub inv-cipher-spec : {M : Type 1} → statement M
 inv-cipher-spec =

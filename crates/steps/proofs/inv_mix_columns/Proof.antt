@@ -1,6 +1,5 @@
 -- InvMixColumns works column by column.
-use mathlib.Core.Path.{_≡_, refl}
-use lib.ListN.{length}
+use mathlib.Core.Path.{refl}
 use Rattle.fips197.specs.Cipher.{columns, invMixColumns}
 use Rattle.fips197.proofs.Steps.{by-columns}
 use borrow.Author.Needs.{needs}
@@ -10,11 +9,8 @@ use Rattle.steps.proofs.inv_mix_columns.Tie as tie
 returns : tie.Need-returns
 unfolding columns invMixColumns
 returns c =
-    let s = c .before .before .before .before .before .args .t2 in
-    let size : length s ≡ 16 = search needs in
-    by-columns invMixColumns s _ _ _ _ _ size (c .joined .ensures)
-    (c .before .before .before .before .inv-mix-column .ensures) (c .before .before .before .inv-mix-column2 .ensures)
-    (c .before .before .inv-mix-column3 .ensures) (c .before .inv-mix-column4 .ensures) refl
+    by-columns invMixColumns (c .before .before .before .before .before .args .t2) _ _ _ _ _ (search needs) (c .joined .ensures) (c .before .before .before .before .inv-mix-column .ensures)
+    (c .before .before .before .inv-mix-column2 .ensures) (c .before .before .inv-mix-column3 .ensures) (c .before .inv-mix-column4 .ensures) refl
 
 pub inv-mix-columns-spec : {M : Type 1} → statement M
 inv-mix-columns-spec =

@@ -1,6 +1,5 @@
 -- MixColumns works column by column.
-use mathlib.Core.Path.{_≡_, refl}
-use lib.ListN.{length}
+use mathlib.Core.Path.{refl}
 use Rattle.fips197.specs.Cipher.{columns, mixColumns}
 use Rattle.fips197.proofs.Steps.{by-columns}
 use borrow.Author.Needs.{needs}
@@ -10,11 +9,8 @@ use Rattle.steps.proofs.mix_columns.Tie as tie
 returns : tie.Need-returns
 unfolding columns mixColumns
 returns c =
-    let s = c .before .before .before .before .before .args .t1 in
-    let size : length s ≡ 16 = search needs in
-    by-columns mixColumns s _ _ _ _ _ size (c .joined .ensures)
-    (c .before .before .before .before .mix-column .ensures) (c .before .before .before .mix-column2 .ensures)
-    (c .before .before .mix-column3 .ensures) (c .before .mix-column4 .ensures) refl
+    by-columns mixColumns (c .before .before .before .before .before .args .t1) _ _ _ _ _ (search needs) (c .joined .ensures) (c .before .before .before .before .mix-column .ensures)
+    (c .before .before .before .mix-column2 .ensures) (c .before .before .mix-column3 .ensures) (c .before .mix-column4 .ensures) refl
 
 pub mix-columns-spec : {M : Type 1} → statement M
 mix-columns-spec =
