@@ -8,7 +8,7 @@ use native.Mathlib.Omega.{arith}
 use lib.Dec.{T}
 use lib.ListN.{length, take, drop, replicate, length-append}
 use lib.Seq.{length-take-le}
-use Rattle.octets.specs.Octets.{Bytes}
+use Rattle.octets.specs.Octets.{Bytes, zeroFrom}
 use Rattle.octets.proofs.Below.{take-below}
 use Rattle.octets.proofs.Numbers.{length-leBytes}
 use Rattle.answers.specs.Rules.{Rule, firstOf, numbered}
@@ -17,7 +17,8 @@ use Rattle.password.specs.Verdict.{judged, verdictRules, passwordRules}
 use Rattle.descriptor.specs.Info.{infoRules}
 use Rattle.blocks.proofs.Aes.{length-encrypted, length-decrypted}
 use Rattle.sheet.specs.Frame.{Pair, pair, streamSize, streamOf, pairOf, Lawful}
-use Rattle.sheet.specs.Sheet.{packageLimit, fillingFor, rounded, allowed, lengths, sealedSize, streamRules, packRules, openRules, sealRules, sheetKey, sealing, opening, packageOf, filledWith, sealingOf, left, reply, ended, opened, sealed}
+use Rattle.sheet.specs.Sheet.{packageLimit, fillingFor, rounded, allowed, lengths, sealedSize, streamRules, packRules, openRules, sealRules, sheetKey, sealing, opening, packageOf, filledWith, sealingOf, Left, left, reply, ended, opened, sealed}
+use Rattle.sheet.specs.declared.Reply.{Reply}
 use Rattle.sheet.proofs.Fillings.{filling-most, rounded-whole, filling-allowed, allowed-rounded}
 use Rattle.sheet.proofs.Lengths.{Openable, openable, Sealable, sealable, openable-blocks}
 
@@ -36,6 +37,22 @@ ended-refused (suc n) size content out h = refl
 pub ended-done : (n size : ℕ) (content out : List ℕ) → n ≡ 0 → ended n size content out ≡ left (reply 0 size) (content ++ replicate (length out - size) 0)
 unfolding ended
 ended-done n size content out h = rw h
+
+-- what the code's own ending leaves: of a refusal the output, where the definition refuses alike
+pub refusal : (a n : ℕ) (r : Reply) (out end content : List ℕ) (l : Left) → a ≡ n → (a ≡ 0 → ⊥) → left r end ≡ ended a 0 content out
+    → ((n ≡ 0 → ⊥) → l ≡ left (reply n 0) out) → left r end ≡ l
+refusal a n r out end content l s z e by =
+    e ∙ ended-refused a 0 content out z ∙ ap (λ (m : ℕ). left (reply m 0) out) s ∙ sym (by (λ w. z (s ∙ w)))
+
+-- and of an acceptance its size, and zeros after so many bytes
+module _ (n : ℕ) (r : Reply) (mid end : List ℕ) (e : left r end ≡ ended 0 n (take n mid) mid) where
+  pub ended-reply : r ≡ reply 0 n
+  unfolding ended
+  ended-reply = ap (λ (l : Left). l .reply) e
+
+  pub ended-out : end ≡ zeroFrom n mid
+  unfolding ended zeroFrom
+  ended-out = ap (λ (l : Left). l .out) e
 
 -- two lists of rules end to end
 module _ (rs ts : List Rule) (size : ℕ) (content out : List ℕ) where

@@ -15,10 +15,10 @@ use Rattle.password.specs.Verdict.{judged, unlocked}
 use Rattle.password.specs.declared.Unlocked.{Unlocked}
 use Rattle.blocks.specs.Blocks.{ecb, encrypting, decrypting}
 use Rattle.sheet.specs.Frame.{Pair, pairOf, streamOf, streamSize}
-use Rattle.sheet.specs.Sheet.{fillingFor, rounded, sealedSize, streamRules, packRules, sealing, opening, packageOf, sealingOf, filledWith, left, reply, opened, sealed}
+use Rattle.sheet.specs.Sheet.{fillingFor, rounded, sealedSize, streamRules, packRules, sealing, opening, packageOf, sealingOf, filledWith, left, ended, opened, sealed}
 use Rattle.sheet.specs.declared.Reply.{Reply}
 use Rattle.sheet.proofs.Lengths.{Openable, openable, Sealable, sealable}
-use Rattle.sheet.proofs.Laws.{open-done, seal-done, package-held, length-ciphertext, length-filling}
+use Rattle.sheet.proofs.Laws.{ended-reply, ended-out, open-done, seal-done, package-held, length-ciphertext, length-filling}
 use Rattle.sheet.proofs.Keyed.{encrypts, decrypts}
 
 -- a list laid at a place, and zeros from where it ends
@@ -39,7 +39,7 @@ rounded-plain pack given extra = take-append-add pack given (fillingFor extra (l
 module _ (info p : List ℕ) (v : judged info p ≡ 0) (u : Unlocked) (e : u ≡ unlocked info p) where
   -- opening: the package
   pub open-written : (s out mid end : List ℕ) (n : ℕ) (r : Reply) → firstOf (streamRules s (length out)) ≡ 0 → n ≡ streamSize s
-      → mid ≡ paste out 0 (ecb (decrypting (u .key)) (take (length s - 8) (drop 8 s))) n → (r ≡ reply 0 n) × (end ≡ zeroFrom n mid)
+      → mid ≡ paste out 0 (ecb (decrypting (u .key)) (take (length s - 8) (drop 8 s))) n → left r end ≡ ended 0 n (take n mid) mid
       → left r end ≡ opened info p s out
   unfolding packageOf pairOf
   open-written s out mid end n r k z pm d =
@@ -50,14 +50,14 @@ module _ (info p : List ℕ) (v : judged info p ≡ 0) (u : Unlocked) (e : u ≡
       ap (ecb (decrypting (u .key))) all ∙ ap (λ (f : List ℕ → List ℕ). f (drop 8 s)) (decrypts info p v u e) in
       let w : end ≡ take n x ++ replicate (length out - n) 0 =
       laid out x mid end 0 n n (zero-add n) (omega (arith, o .roomy)) (omega (arith, package-held info p s (length out) o))
-      (pm ∙ ap (λ (y : List ℕ). paste out 0 y n) it) (d .1) in
-      rw (d .0, w, z) (sym (open-done info p s out v k))
+      (pm ∙ ap (λ (y : List ℕ). paste out 0 y n) it) (ended-out _ _ _ _ d) in
+      rw (ended-reply _ _ _ _ d, w, z) (sym (open-done info p s out v k))
 
   -- sealing: eight bytes of size, and the ciphertext
   pub seal-written : (pack given : List ℕ) (extra : Bool) (out first mid end : List ℕ) (n : ℕ) (r : Reply)
       → firstOf (packRules extra (length pack) (length out)) ≡ 0 → length given ≡ 16
       → n ≡ rounded extra (length pack) → first ≡ paste out 0 (leBytes 8 (length pack)) 8
-      → mid ≡ paste first 8 (ecb (encrypting (u .key)) (take n (pack ++ given))) n → (r ≡ reply 0 (8 + n)) × (end ≡ zeroFrom (8 + n) mid)
+      → mid ≡ paste first 8 (ecb (encrypting (u .key)) (take n (pack ++ given))) n → left r end ≡ ended 0 (8 + n) (take (8 + n) mid) mid
       → left r end ≡ sealed info p pack given extra out
   unfolding sealedSize sealingOf streamOf filledWith
   seal-written pack given extra out first mid end n r k g z pf pm d =
@@ -72,6 +72,6 @@ module _ (info p : List ℕ) (v : judged info p ≡ 0) (u : Unlocked) (e : u ≡
       let it : ecb (encrypting (u .key)) (take n (pack ++ given)) ≡ y = ap (ecb (encrypting (u .key))) (ap (λ (m : ℕ). take m (pack ++ given)) z ∙ rounded-plain pack given extra)
       ∙ ap (λ (f : List ℕ → List ℕ). f (q .pack ++ q .fill)) (encrypts info p v u e) in
       let w : end ≡ leBytes 8 (length pack) ++ y ++ replicate (length out - (8 + n)) 0 =
-      laid first y mid end 8 n (8 + n) refl (omega arith) (omega arith) (pm ∙ ap (λ (l : List ℕ). paste first 8 l n) it) (d .1)
+      laid first y mid end 8 n (8 + n) refl (omega arith) (omega arith) (pm ∙ ap (λ (l : List ℕ). paste first 8 l n) it) (ended-out _ _ _ _ d)
       ∙ rw (head, take-all n y (omega arith), kept) in
-      rw (d .0, w, z) (sym (seal-done info p pack given extra out v k))
+      rw (ended-reply _ _ _ _ d, w, z) (sym (seal-done info p pack given extra out v k))

@@ -10,7 +10,7 @@
 ghost use mathlib.Core.Path.{_≡_};
 ghost use mathlib.Core.Bool.{not};
 ghost use Prim.Native.Nat.{_-_, _≤_};
-ghost use lib.ListN.{length};
+ghost use lib.ListN.{length, take};
 ghost use Rattle.octets.specs.Octets.{leAt, zeroFrom};
 ghost use Rattle.answers.specs.Rules.{firstOf};
 ghost use Rattle.sheet.specs.Sheet as Sheet;
@@ -56,15 +56,8 @@ fn stream_size(stream: &[u8]) -> usize
     octets::le64(stream, 0) as usize
 }
 
-// The reply of a call that writes nothing.
-pub fn refused(answer: u16) -> Reply
-    ensures { λ r. ⌜ r ≡ reply answer 0 ⌝ }
-{
-    Reply { answer, size: 0 }
-}
-
 // The reply of a call that has written `size` bytes, and zeros after them.
-pub fn done(size: usize, out: &mut [u8]) -> Reply
+fn done(size: usize, out: &mut [u8]) -> Reply
     ensures { λ r. ⌜ (r ≡ reply 0 size) × (now (out .exit) ≡ zeroFrom size (now (out .entry))) ⌝ }
 {
     octets::zero_from(out, size);
@@ -72,6 +65,16 @@ pub fn done(size: usize, out: &mut [u8]) -> Reply
         answer: answers::DONE,
         size,
     }
+}
+
+// How a call ends: with answer 0 after it has written `size` bytes; with any other size 0, and out as it is.
+pub fn ended(answer: u16, size: usize, out: &mut [u8]) -> Reply
+    ensures { λ r. ⌜ left r (now (out .exit)) ≡ Sheet.ended answer size (take size (now (out .entry))) (now (out .entry)) ⌝ }
+{
+    if answer != answers::DONE {
+        return Reply { answer, size: 0 };
+    }
+    done(size, out)
 }
 
 // How many bytes stand after the first eight.
@@ -136,16 +139,16 @@ pub fn open(info: &[u8], password: &[u16], stream: &[u8], out: &mut [u8]) -> Rep
     let u = password::unlock(info, password);
     let a = u.answer;
     if a != answers::DONE {
-        return refused(a);
+        return ended(a, 0, out);
     }
     let b = stream_answer(stream, out.len());
     if b != answers::DONE {
-        return refused(b);
+        return ended(b, 0, out);
     }
     let size = stream_size(stream);
     let key = u.key;
     blocks::decrypt(key, &stream[8..], size, out);
-    done(size, out)
+    ended(answers::DONE, size, out)
 }
 
 // Seals a package into out under an existing descriptor, its last block filled with the first of the filling bytes. Where the size takes
@@ -163,16 +166,16 @@ pub fn seal(
     let u = password::unlock(info, password);
     let a = u.answer;
     if a != answers::DONE {
-        return refused(a);
+        return ended(a, 0, out);
     }
     let n = contents.len();
     let b = pack_answer(extra, n, out.len());
     if b != answers::DONE {
-        return refused(b);
+        return ended(b, 0, out);
     }
     let whole = rounded(extra, n);
     let key = u.key;
     octets::put_le64(out, 0, n as u64);
     blocks::encrypt(key, contents, filling, whole, out, 8);
-    done(8 + whole, out)
+    ended(answers::DONE, 8 + whole, out)
 }

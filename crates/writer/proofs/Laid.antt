@@ -19,8 +19,9 @@ use Rattle.descriptor.proofs.LaidOut.{numbers-more, length-numbers}
 use Rattle.blocks.specs.Blocks.{ecb, encrypting}
 use Rattle.blocks.proofs.Ecb.{ecb-one}
 use Rattle.blocks.proofs.Aes.{encrypting-expanded}
-use Rattle.sheet.specs.Sheet.{left, reply}
+use Rattle.sheet.specs.Sheet.{left, ended}
 use Rattle.sheet.specs.declared.Reply.{Reply}
+use Rattle.sheet.proofs.Laws.{ended-reply, ended-out}
 use Rattle.writer.specs.Written as Written
 use Rattle.writer.proofs.Laws.{newKey, writable, hash-filled, length-hash, write-done}
 
@@ -97,7 +98,7 @@ module _ (bits : ℕ) (password name salt v filling out : List ℕ) (z : firstOf
 
   pub written-laid : (front locked o₁ o₂ o₃ end : List ℕ) (r : Reply) → front ≡ LaidOut.front fields → length front ≡ 44
       → locked ≡ LaidOut.verifier fields → length locked ≡ 72 → o₁ ≡ paste out 0 front 44 → o₂ ≡ paste o₁ 44 name (length name)
-      → o₃ ≡ paste o₂ (44 + length name) locked 72 → (r ≡ reply 0 (116 + length name)) × (end ≡ zeroFrom (116 + length name) o₃)
+      → o₃ ≡ paste o₂ (44 + length name) locked 72 → left r end ≡ ended 0 (116 + length name) (take (116 + length name) o₃) o₃
       → left r end ≡ Written.written bits password name salt v filling out
   unfolding Written.infoOf LaidOut.laidOut Written.newFields
   written-laid front locked o₁ o₂ o₃ end r f lf l ll e₁ e₂ e₃ d =
@@ -108,4 +109,4 @@ module _ (bits : ℕ) (password name salt v filling out : List ℕ) (z : firstOf
       let named = more 44 n (72 + m) name o₂ (more 0 44 (n + (72 + m)) front o₁ (none out (44 + (n + (72 + m))) room) lf e₁) refl e₂ in
       let all : zeroFrom (116 + n) o₃ ≡ front ++ name ++ locked ++ replicate m 0 =
       ap (λ (k : ℕ). zeroFrom k o₃) size ∙ zeroed (more (44 + n) 72 m locked o₃ named ll e₃) in
-      rw (d .0, d .1, all, f, l, write-done bits password name salt v filling out z, append-nil)
+      rw (ended-reply _ _ _ _ d, ended-out _ _ _ _ d, all, f, l, write-done bits password name salt v filling out z, append-nil)

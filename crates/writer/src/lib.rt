@@ -65,12 +65,12 @@ pub fn write_info(
     let n = name.len();
     let a = answer(bits, password.len(), n, out.len());
     if a != answers::DONE {
-        return sheet::refused(a);
+        return sheet::ended(a, 0, out);
     }
     let front = header::front(bits, n);
     let locked = verifier::locked(key(bits, salt, password), salt, verifier, filling);
     octets::copy(&front, 0, 44, out, 0);
     octets::copy(name, 0, n, out, 44);
     octets::copy(&locked, 0, 72, out, 44 + n);
-    sheet::done(116 + n, out)
+    sheet::ended(answers::DONE, 116 + n, out)
 }

@@ -12,7 +12,7 @@ use Rattle.password.proofs.Laws.{unlocked-answer}
 use Rattle.sheet.specs.Frame.{streamSize}
 use Rattle.sheet.specs.Sheet.{streamRules, left}
 use Rattle.sheet.proofs.Lengths.{Openable, openable, openable-blocks}
-use Rattle.sheet.proofs.Laws.{open-by-verdict, open-by-stream}
+use Rattle.sheet.proofs.Laws.{refusal, open-by-verdict, open-by-stream}
 use Rattle.sheet.proofs.Keyed.{rounds-known}
 use Rattle.sheet.proofs.Written.{open-written}
 use Rattle.sheet.proofs.open.Statement.{statement}
@@ -33,12 +33,14 @@ fit : (c : tie.Else2) → let a = c .before .before .before .before .before .bef
 fit c = openable _ _ .0 (kept c)
 
 returns : tie.Need-returns
-returns c = rw (c .refused .ensures, says (c .before .before)) (sym (open-by-verdict _ _ _ _ (λ z. c .before .if1 .taken (says (c .before .before) ∙ z))))
+returns c =
+    let t = c .before .before .before .before in
+    refusal _ _ _ _ _ _ _ (says (t .before)) (t .if1 .taken) (c .before .before .ended .ensures) (open-by-verdict _ _ _ _)
 
 returns-2 : tie.Need-returns-2
 returns-2 c =
-    rw (c .refused2 .ensures, c .before .before .stream-answer .ensures)
-    (sym (open-by-stream _ _ _ _ (accepted (c .before .before .before)) (λ z. c .before .if2 .taken (c .before .before .stream-answer .ensures ∙ z))))
+    let t = c .before .before .before .before in
+    refusal _ _ _ _ _ _ _ (t .before .stream-answer .ensures) (t .if2 .taken) (c .before .before .ended2 .ensures) (open-by-stream _ _ _ _ (accepted (t .before .before)))
 
 sub-decrypt : tie.Need-sub-decrypt
 sub-decrypt c = fit (c .before .before) .headed
@@ -62,7 +64,7 @@ returns-3 c =
     let d = c .before .before .before .before .before .before in
     let e = d .before .before .before .before .before in
     open-written _ _ (accepted (e .before .before)) _ (e .before .before .before .unlock .ensures) _ _ _ _ _ _ (kept e) (d .before .before .before .before .stream-size .ensures)
-    (d .decrypt .ensures) (c .before .before .done .ensures)
+    (d .decrypt .ensures) (c .before .before .ended3 .ensures)
 
 pub open-spec : {M : Type 1} → statement M
 open-spec =
@@ -70,9 +72,11 @@ open-spec =
     (tie.spec
     (λ c κs. search needs)
     (λ c κs. search needs)
+    (λ c. search needs)
     returns
     (λ c κs. search needs)
     (λ c κs. search needs)
+    (λ c. search needs)
     returns-2
     (λ c κs. search needs)
     sub-decrypt

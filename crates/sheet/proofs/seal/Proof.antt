@@ -10,7 +10,7 @@ use Rattle.password.proofs.Laws.{unlocked-answer}
 use Rattle.sheet.specs.Sheet.{packageLimit, rounded, sealedSize, packRules}
 use Rattle.sheet.proofs.Fillings.{rounded-most, rounded-whole}
 use Rattle.sheet.proofs.Lengths.{Sealable, sealable}
-use Rattle.sheet.proofs.Laws.{seal-by-verdict, seal-by-pack}
+use Rattle.sheet.proofs.Laws.{refusal, seal-by-verdict, seal-by-pack}
 use Rattle.sheet.proofs.Keyed.{rounds-known}
 use Rattle.sheet.proofs.Written.{seal-written}
 use Rattle.sheet.proofs.seal.Statement.{statement}
@@ -34,12 +34,14 @@ fit : (c : tie.Else2) → let a = c .before .before .before .before .before .bef
 fit c = sealable _ _ _ .0 (kept c)
 
 returns : tie.Need-returns
-returns c = rw (c .refused .ensures, says (c .before .before)) (sym (seal-by-verdict _ _ _ _ _ _ (λ z. c .before .if1 .taken (says (c .before .before) ∙ z))))
+returns c =
+    let t = c .before .before .before .before in
+    refusal _ _ _ _ _ _ _ (says (t .before)) (t .if1 .taken) (c .before .before .ended .ensures) (seal-by-verdict _ _ _ _ _ _)
 
 returns-2 : tie.Need-returns-2
 returns-2 c =
-    rw (c .refused2 .ensures, c .before .before .pack-answer .ensures)
-    (sym (seal-by-pack _ _ _ _ _ _ (accepted (c .before .before .before)) (λ z. c .before .if2 .taken (c .before .before .pack-answer .ensures ∙ z))))
+    let t = c .before .before .before .before in
+    refusal _ _ _ _ _ _ _ (t .before .pack-answer .ensures) (t .if2 .taken) (c .before .before .ended2 .ensures) (seal-by-pack _ _ _ _ _ _ (accepted (t .before .before)))
 
 rounded-requires : tie.Need-rounded-requires
 rounded-requires c κs = fit c .limited
@@ -57,9 +59,9 @@ encrypt-requires c κs =
     let k = c .before .before .before .put-le64 .kept .0 in
     (r, (rw n (rounded-whole _ _), omega (arith, rounded-most _ _ _ n), omega (arith, fit e .roomy)))
 
-add-done : tie.Need-add-done
+add-ended : tie.Need-add-ended
 unfolding packageLimit
-add-done c =
+add-ended c =
     let e = c .before .before .before .before .before .before .before .before .before .before in
     omega (arith, fit e .limited, rounded-most _ _ _ (c .before .before .before .before .before .before .before .before .before .rounded .ensures))
 
@@ -69,7 +71,7 @@ returns-3 c =
     let e = d .before .before .before .before .before .before .before .before in
     let s = e .before .before .before .before .before .before .before .before in
     seal-written _ _ (accepted (e .before .before)) _ (e .before .before .before .unlock .ensures) _ (s .args .filling) (s .args .extra) _ _ _ _ _ _ (kept e) (sixteen s)
-    (d .before .before .before .before .before .before .before .rounded .ensures) (d .before .before .before .before .put-le64 .ensures) (d .encrypt .ensures) (c .before .before .done .ensures)
+    (d .before .before .before .before .before .before .before .rounded .ensures) (d .before .before .before .before .put-le64 .ensures) (d .encrypt .ensures) (c .before .before .ended3 .ensures)
 
 pub seal-spec : {M : Type 1} → statement M
 seal-spec =
@@ -77,14 +79,16 @@ seal-spec =
     (tie.spec
     (λ c κs. search needs)
     (λ c κs. search needs)
+    (λ c. search needs)
     returns
     (λ c κs. search needs)
     (λ c κs. search needs)
+    (λ c. search needs)
     returns-2
     rounded-requires
     put-le64-requires
     encrypt-requires
-    add-done
+    add-ended
     (λ c κs. search needs)
     (λ c. search needs)
     returns-3)

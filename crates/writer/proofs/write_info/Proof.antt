@@ -7,6 +7,7 @@ use lib.ListN.{length}
 use Rattle.answers.specs.Rules.{firstOf}
 use Rattle.aes.specs.declared.Expanded.{Expanded}
 use Rattle.blocks.proofs.Aes.{expanded-rounds}
+use Rattle.sheet.proofs.Laws.{refusal}
 use Rattle.writer.specs.Written.{nameLimit, writeRules}
 use Rattle.writer.proofs.Laws.{key-size, Writable, writable, newKey, key-fits, write-refused}
 use Rattle.writer.proofs.Laid.{written-laid}
@@ -24,8 +25,8 @@ fit c = writable _ _ _ _ .0 (kept c)
 
 returns : tie.Need-returns
 returns c =
-    rw (c .refused .ensures, c .before .before .answer .ensures)
-    (sym (write-refused _ _ _ _ _ _ _ (λ z. c .before .if1 .taken (c .before .before .answer .ensures ∙ z))))
+    let t = c .before .before .before .before in
+    refusal _ _ _ _ _ _ _ (t .before .answer .ensures) (t .if1 .taken) (c .before .before .ended .ensures) (write-refused _ _ _ _ _ _ _)
 
 front-requires : tie.Need-front-requires
 unfolding nameLimit
@@ -56,8 +57,8 @@ copy-requires-3 c κs =
     let n : length (c .before .before .before .before .before .before .before .before .before .before .before .locked .result) ≡ 72 = search needs in
     (omega arith, omega (arith, fit (c .before .before .before .before .before .before .before .before .before .before .before .before .before .before) .roomy, c .before .before .before .before .copy2 .kept .1 .1 .1 .0, c .before .before .before .before .before .before .before .before .copy .kept .1 .1 .1 .0))
 
-add-done : tie.Need-add-done
-add-done c = omega (arith, fit (c .before .before .before .before .before .before .before .before .before .before .before .before .before .before .before .before .before) .short)
+add-ended : tie.Need-add-ended
+add-ended c = omega (arith, fit (c .before .before .before .before .before .before .before .before .before .before .before .before .before .before .before .before .before) .short)
 
 returns-2 : tie.Need-returns-2
 returns-2 c =
@@ -74,7 +75,7 @@ returns-2 c =
     written-laid (a .bits .0) _ _ (a .salt) (a .verifier) (a .filling) _ (kept e) _ _ _ _ _ _ _
     (front .ensures k (a .name .now) (a .salt) (a .verifier) (a .filling) refl) lf
     (part .locked .ensures (a .bits .0) k (a .name .now) (key-fits (a .bits .0) (a .salt) (a .password .now) (fit e .key)) (part .before .key .ensures)) ll
-    (first .copy .ensures) (name .copy2 .ensures) (last .copy3 .ensures) (c .before .before .done .ensures)
+    (first .copy .ensures) (name .copy2 .ensures) (last .copy3 .ensures) (c .before .before .ended2 .ensures)
 
 pub write-info-spec : {M : Type 1} → statement M
 write-info-spec =
@@ -82,6 +83,7 @@ write-info-spec =
     (tie.spec
     (λ c κs. search needs)
     (λ c κs. search needs)
+    (λ c. search needs)
     returns
     front-requires
     key-requires
@@ -92,7 +94,7 @@ write-info-spec =
     (λ c. search needs)
     add-copy
     copy-requires-3
-    add-done
+    add-ended
     (λ c κs. search needs)
     (λ c. search needs)
     returns-2)
