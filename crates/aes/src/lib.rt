@@ -11,7 +11,7 @@
 //         let opened = aes::decrypt(&key, sealed.block);
 //     }
 //
-// A stream expands its key once; `columns` has the ciphers for it. `steps::cipher` and `steps::inv_cipher` do a lone block's work: the
+// A stream expands its key once; `columns` has the ciphers for it. `aes_rounds::cipher` and `aes_rounds::inv_cipher` do a lone block's work: the
 // one doubles, the other lays the shares of `products`, and neither mixes a key.
 ghost use mathlib.Core.Path.{_≡_};
 ghost use Rattle.aes.specs.Aes as Aes;
@@ -81,7 +81,7 @@ pub fn encrypt_block(key: Expanded, block: [u8; 16]) -> Reply
         10 | 12 | 14 => {
             let w = key.bytes;
             let table = tables::SBOX;
-            accepted(steps::cipher(&w, rounds, &table, block))
+            accepted(aes_rounds::cipher(&w, rounds, &table, block))
         }
         _ => refusal(),
     }
@@ -97,7 +97,7 @@ pub fn decrypt_block(key: Expanded, block: [u8; 16]) -> Reply
             let w = key.bytes;
             let table = tables::INV_SBOX;
             let shares = products::shares();
-            accepted(steps::inv_cipher(&w, rounds, &table, &shares, block))
+            accepted(aes_rounds::inv_cipher(&w, rounds, &table, &shares, block))
         }
         _ => refusal(),
     }

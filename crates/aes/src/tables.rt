@@ -10,9 +10,9 @@ ghost use Rattle.fips197.specs.Tables as Tables;
 mod forward;
 mod inverse;
 
+use aes_rounds::look;
 pub use forward::SBOX;
 pub use inverse::INV_SBOX;
-use steps::look;
 
 // The powers of x that the key expansion adds.
 const ROUND_CONSTANTS: [u8; 10] = [0x01, 0x02, 0x04, 0x08, 0x10, 0x20, 0x40, 0x80, 0x1b, 0x36];

@@ -9,7 +9,7 @@
 //     let words = columns::forward(&table);
 //     let sealed = columns::cipher(&w, rounds, &table, &words, block);
 //
-// Lay the words and mix the keys once a stream, and lend them: for a lone block that costs more than it saves, and `steps` has the
+// Lay the words and mix the keys once a stream, and lend them: for a lone block that costs more than it saves, and `aes_rounds` has the
 // ciphers that do without.
 //
 // Warning: as in `aes`, the time that a look-up takes can betray the byte to whoever shares the processor's cache.
@@ -24,12 +24,12 @@ ghost use Rattle.columns.specs.Columns as Columns;
 mod rounds;
 mod words;
 
+use aes_rounds::add_round_key;
+use aes_rounds::inv_mix_columns;
+use aes_rounds::inv_shift_rows;
+use aes_rounds::shift_rows;
+use aes_rounds::sub_bytes;
 use rounds::round;
-use steps::add_round_key;
-use steps::inv_mix_columns;
-use steps::inv_shift_rows;
-use steps::shift_rows;
-use steps::sub_bytes;
 pub use words::forward;
 pub use words::inverse;
 

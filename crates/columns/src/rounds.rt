@@ -5,8 +5,8 @@ ghost use Prim.Native.Nat.{ℕ, _+_, _≤_};
 ghost use lib.ListN.{length, take, drop};
 ghost use Rattle.fips197.specs.Cipher as Cipher;
 ghost use Rattle.fips197.specs.Products.{Laid};
+use aes_rounds::joined;
 use products::packed::four;
-use steps::joined;
 
 // Round key n.
 pub fn key(w: &[u8; 240], n: usize) -> [u8; 16]
