@@ -3,4 +3,4 @@
 mod Bounds
 mod Laid
 mod Ended
-mod Lossless
+pub mod Lossless

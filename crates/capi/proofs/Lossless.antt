@@ -1,15 +1,15 @@
--- Nothing is lost where values cross: a word gives back its answer and its size, any sixteen bytes are those of two numbers, and each field
+-- Nothing is lost where values cross: a word tells its answer and its size again, any sixteen bytes are those of two numbers, and each field
 -- of a descriptor can be read from its 84 bytes. Assumes nothing.
-use mathlib.Core.Path.{_≡_, refl, sym, ap, subst, _∙_}
+use mathlib.Core.Path.{_≡_, refl, sym, ap, _∙_}
 use mathlib.Core.Bool.{Bool, true, false, cond}
 use mathlib.Core.List.{List, _∷_, _++_, append-assoc}
-use Prim.Native.Nat.{ℕ, zero, suc, _/_, _%_, _^_, _<_}
+use Prim.Native.Nat.{ℕ, zero, suc, _+_, _-_, _*_, _/_, _%_, _^_, _<_}
 use native.Mathlib.Omega.{arith}
 use borrow.Author.Tests.{le-ltb}
-use lib.ListN.{length, take, drop, take-append-drop, length-append, length-drop}
-use lib.Seq.{take-at, drop-at, take-all}
+use lib.ListN.{length, take, drop, replicate, take-append-drop, length-append, length-drop}
+use lib.Seq.{take-at, drop-at, take-all, length-take-le}
 use Rattle.octets.specs.Octets.{Bytes, leBytes, leAt}
-use Rattle.octets.proofs.Numbers.{le-leBytes, leBytes-leAt}
+use Rattle.octets.proofs.Numbers.{length-leBytes, le-leBytes, leBytes-leAt}
 use Rattle.answers.specs.Rules.{Rule, firstOf, numbers}
 use Rattle.answers.proofs.Laws.{listed}
 use Rattle.sha1.specs.Sha1 as Sha1
@@ -19,109 +19,85 @@ use Rattle.descriptor.specs.declared.Descriptor.{Descriptor}
 use Rattle.descriptor.proofs.Laws.{Admitted, parsed-answer, parsed-fields}
 use Rattle.password.specs.Verdict as Verdict
 use Rattle.sheet.specs.Sheet as Sheet
-use Rattle.sheet.proofs.Laws.{open-answer, seal-answer}
+use Rattle.sheet.specs.declared.Reply.{Reply}
 use Rattle.writer.specs.Written as Written
-use Rattle.writer.proofs.Laws.{write-answer}
 use Rattle.capi.specs.Capi as Capi
 use Rattle.capi.proofs.Bounds.{sum, one-within, described-fits}
-use Rattle.capi.proofs.Ended.{write-crossed, open-crossed, seal-crossed}
 
 -- ---- the word
 
--- w tells the answer a and the size s
-pub record Tells (w a s : ℕ) : Type 0 where
-  pub answer : w % 65536 ≡ a
-  pub size : w / 65536 ≡ s
-
-pub word-tells : (answer size : ℕ) → answer < 65536 → Tells (Capi.replyWord answer size) answer size
-unfolding Capi.replyWord
-word-tells answer size h = record { answer = omega arith; size = omega arith }
+pub word-told : (answer size : ℕ) → answer < 65536 → Capi.told (Capi.replyWord answer size) ≡ Sheet.reply answer size
+unfolding Capi.told Capi.replyWord
+word-told answer size h =
+    let a : (answer + 65536 * size) % 65536 ≡ answer = omega arith in
+    let s : (answer + 65536 * size) / 65536 ≡ size = omega arith in
+    λ i. Sheet.reply (a i) (s i)
 
 -- an answer by rules with small numbers
 small : (rs : List Rule) → sum (numbers rs) < 65536 → firstOf rs < 65536
 small rs h = omega (arith, one-within (0 ∷ numbers rs) (firstOf rs) (listed rs))
 
-ended-tells : (answer : ℕ) (value out : List ℕ) → answer < 65536 → Tells (Capi.outcomeBy answer 0 value out .word) answer 0
-unfolding Capi.outcomeBy
-ended-tells zero value out h = word-tells 0 0 h
-ended-tells (suc n) value out h = word-tells (suc n) 0 h
+-- ---- a value of fixed length: the word tells the answer and no size
 
-pub hash-tells : (message out : List ℕ) → Tells (Capi.hashOutcome message out .word) (Sha1.hashed message .answer) 0
+value-told : (answer : ℕ) (value out : List ℕ) → answer < 65536 → Capi.told (Capi.outcomeBy answer 0 value out .word) ≡ Sheet.reply answer 0
+unfolding Capi.outcomeBy
+value-told zero value out h = word-told 0 0 h
+value-told (suc n) value out h = word-told (suc n) 0 h
+
+pub hash-told : (message out : List ℕ) → Capi.told (Capi.hashOutcome message out .word) ≡ Sheet.reply (Sha1.hashed message .answer) 0
 unfolding Capi.hashOutcome Sha1.hashed Sha1.hashRules
-hash-tells message out = ended-tells _ _ out (small (Sha1.hashRules message) (omega arith))
+hash-told message out = value-told _ _ out (small (Sha1.hashRules message) (omega arith))
 
 -- a block operation answers 0 or 8
-block-tells : (b : Bool) (s out : List ℕ) → let r = cond b (Aes.doneBlock s) Aes.refusedBlock in Tells (Capi.blockOutcome r out .word) (r .answer) 0
+block-told : (b : Bool) (s out : List ℕ) → let r = cond b (Aes.doneBlock s) Aes.refusedBlock in Capi.told (Capi.blockOutcome r out .word) ≡ Sheet.reply (r .answer) 0
 unfolding Capi.blockOutcome Aes.doneBlock Aes.refusedBlock
-block-tells true s out = ended-tells 0 s out (omega arith)
-block-tells false s out = ended-tells 8 _ out (omega arith)
+block-told true s out = value-told 0 s out (omega arith)
+block-told false s out = value-told 8 _ out (omega arith)
 
 module _ (key : List ℕ) (low high : ℕ) (out : List ℕ) where
-  pub encrypt-tells : Tells (Capi.encryptOutcome key low high out .word) (Aes.encrypted key (Capi.sixteen low high) .answer) 0
+  pub encrypt-told : Capi.told (Capi.encryptOutcome key low high out .word) ≡ Sheet.reply (Aes.encrypted key (Capi.sixteen low high) .answer) 0
   unfolding Capi.encryptOutcome Aes.encrypted
-  encrypt-tells = block-tells (Aes.keyLength (length key)) _ out
+  encrypt-told = block-told (Aes.keyLength (length key)) _ out
 
-  pub decrypt-tells : Tells (Capi.decryptOutcome key low high out .word) (Aes.decrypted key (Capi.sixteen low high) .answer) 0
+  pub decrypt-told : Capi.told (Capi.decryptOutcome key low high out .word) ≡ Sheet.reply (Aes.decrypted key (Capi.sixteen low high) .answer) 0
   unfolding Capi.decryptOutcome Aes.decrypted
-  decrypt-tells = block-tells (Aes.keyLength (length key)) _ out
+  decrypt-told = block-told (Aes.keyLength (length key)) _ out
 
-pub parse-tells : (info out : List ℕ) → Tells (Capi.parseOutcome info out .word) (Info.parsed info .answer) 0
+pub parse-told : (info out : List ℕ) → Capi.told (Capi.parseOutcome info out .word) ≡ Sheet.reply (Info.parsed info .answer) 0
 unfolding Capi.parseOutcome Info.parsed Info.infoRules
-parse-tells info out = ended-tells _ _ out (small (Info.infoRules info) (omega arith))
+parse-told info out = value-told _ _ out (small (Info.infoRules info) (omega arith))
+
+pub verdict-told : (info password : List ℕ) → Capi.told (Capi.verdictWord info password) ≡ Sheet.reply (Verdict.judged info password) 0
+unfolding Capi.verdictWord Verdict.judged Verdict.verdictRules Verdict.passwordRules Info.infoRules
+verdict-told info password = word-told _ 0 (small (Verdict.verdictRules info password) (omega arith))
+
+-- ---- opening, sealing and writing: what C has is what the call left
+
+sheet-told : (answer size : ℕ) (content out : List ℕ) → answer < 65536
+    → let l = Sheet.ended answer size content out in Capi.readBack (Capi.sheetOutcome l out) ≡ l
+unfolding Capi.sheetOutcome Capi.outcomeBy Sheet.ended
+sheet-told zero size content out h = ap (λ (r : Reply). Sheet.left r (content ++ replicate (length out - size) 0)) (word-told 0 size h)
+sheet-told (suc n) size content out h = ap (λ (r : Reply). Sheet.left r out) (word-told (suc n) 0 h)
 
 module _ (info password : List ℕ) where
-  pub verdict-tells : Tells (Capi.verdictWord info password) (Verdict.judged info password) 0
-  unfolding Capi.verdictWord Verdict.judged Verdict.verdictRules Verdict.passwordRules Info.infoRules
-  verdict-tells = word-tells _ 0 (small (Verdict.verdictRules info password) (omega arith))
+  pub open-told : (stream out : List ℕ) → Capi.readBack (Capi.openOutcome info password stream out) ≡ Sheet.opened info password stream out
+  unfolding Capi.openOutcome Sheet.opened Sheet.openRules Sheet.streamRules Verdict.verdictRules Verdict.passwordRules Info.infoRules
+  open-told stream out = sheet-told _ _ _ out (small (Sheet.openRules info password stream (length out)) (omega arith))
 
-  module _ (stream out : List ℕ) where
-    open-small : Sheet.opened info password stream out .reply .answer < 65536
-    unfolding Sheet.openRules Sheet.streamRules Verdict.verdictRules Verdict.passwordRules Info.infoRules
-    open-small = rw (open-answer info password stream out) (small (Sheet.openRules info password stream (length out)) (omega arith))
+  pub seal-told : (pack : List ℕ) (low high extra : ℕ) (out : List ℕ)
+      → Capi.readBack (Capi.sealOutcome info password pack low high extra out)
+      ≡ Sheet.sealed info password pack (Capi.sixteen low high) (Capi.chosen extra) out
+  unfolding Capi.sealOutcome Sheet.sealed Sheet.sealRules Sheet.packRules Verdict.verdictRules Verdict.passwordRules Info.infoRules
+  seal-told pack low high extra out =
+      sheet-told _ _ _ out (small (Sheet.sealRules info password (Capi.chosen extra) (length pack) (length out)) (omega arith))
 
-    pub open-tells : let r = Sheet.opened info password stream out .reply in Tells (Capi.openOutcome info password stream out .word) (r .answer) (r .size)
-    open-tells =
-        let l = Sheet.opened info password stream out in
-        subst (λ (c : Capi.Outcome). Tells (c .word) (l .reply .answer) (l .reply .size))
-        (open-crossed info password _ (l .reply) out (l .out) refl stream refl) (word-tells _ _ open-small)
-
-  module _ (pack : List ℕ) (low high extra : ℕ) (out : List ℕ) where
-    abbrev given : List ℕ
-    given = Capi.sixteen low high
-
-    abbrev replied : Sheet.Left
-    replied = Sheet.sealed info password pack given (Capi.chosen extra) out
-
-    seal-small : replied .reply .answer < 65536
-    unfolding Sheet.sealRules Sheet.packRules Verdict.verdictRules Verdict.passwordRules Info.infoRules
-    seal-small =
-        rw (seal-answer info password pack given (Capi.chosen extra) out)
-        (small (Sheet.sealRules info password (Capi.chosen extra) (length pack) (length out)) (omega arith))
-
-    pub seal-tells : Tells (Capi.sealOutcome info password pack low high extra out .word) (replied .reply .answer) (replied .reply .size)
-    seal-tells =
-        subst (λ (c : Capi.Outcome). Tells (c .word) (replied .reply .answer) (replied .reply .size))
-        (seal-crossed info password _ (replied .reply) out (replied .out) refl pack given low high extra refl refl) (word-tells _ _ seal-small)
-
--- a new EncryptionInfo
-module _ (bits : ℕ) (password name : List ℕ) (saltLow saltHigh verifierLow verifierHigh fillingLow fillingHigh : ℕ) (out : List ℕ) where
-  abbrev new : Sheet.Left
-  new =
-      Written.written (Capi.bitCount bits .0) password name (Capi.sixteen saltLow saltHigh) (Capi.sixteen verifierLow verifierHigh)
-      (Capi.twelve fillingLow fillingHigh) out
-
-  write-small : new .reply .answer < 65536
-  unfolding Written.writeRules
-  write-small =
-      rw (write-answer (Capi.bitCount bits .0) password name _ _ _ out)
-      (small (Written.writeRules (Capi.bitCount bits .0) (length password) (length name) (length out)) (omega arith))
-
-  pub write-tells : Tells (Capi.writeOutcome bits password name saltLow saltHigh verifierLow verifierHigh fillingLow fillingHigh out .word)
-      (new .reply .answer) (new .reply .size)
-  unfolding Capi.writeOutcome
-  write-tells =
-      subst (λ (c : Capi.Outcome). Tells (c .word) (new .reply .answer) (new .reply .size))
-      (write-crossed _ _ _ _ _ _ _ (new .reply) out (new .out) refl refl) (word-tells _ _ write-small)
+pub write-told : (bits : ℕ) (password name : List ℕ) (saltLow saltHigh verifierLow verifierHigh fillingLow fillingHigh : ℕ) (out : List ℕ)
+    → Capi.readBack (Capi.writeOutcome bits password name saltLow saltHigh verifierLow verifierHigh fillingLow fillingHigh out)
+    ≡ Written.written (Capi.bitCount bits .0) password name (Capi.sixteen saltLow saltHigh) (Capi.sixteen verifierLow verifierHigh)
+    (Capi.twelve fillingLow fillingHigh) out
+unfolding Capi.writeOutcome Written.written Written.writeRules
+write-told bits password name saltLow saltHigh verifierLow verifierHigh fillingLow fillingHigh out =
+    sheet-told _ _ _ out (small (Written.writeRules (Capi.bitCount bits .0) (length password) (length name) (length out)) (omega arith))
 
 -- a key's length in bits, if it is one
 pub bits-cross : (bits : ℕ) → bits < 256 ^ 4 → Capi.bitCount bits .0 ≡ bits
@@ -129,6 +105,14 @@ unfolding Capi.bitCount
 bits-cross bits h = rw (le-ltb 4294967295 bits (omega arith))
 
 -- ---- sixteen bytes, and twelve
+
+pub length-sixteen : (low high : ℕ) → length (Capi.sixteen low high) ≡ 16
+unfolding Capi.sixteen
+length-sixteen low high = simp (length-append, length-leBytes)
+
+pub length-twelve : (low high : ℕ) → length (Capi.twelve low high) ≡ 12
+unfolding Capi.twelve
+length-twelve low high = length-take-le 12 (Capi.sixteen low high) (omega (arith, length-sixteen low high))
 
 pub sixteen-all : (b : List ℕ) → Bytes b → length b ≡ 16 → Capi.sixteen (leAt 8 0 b) (leAt 8 8 b) ≡ b
 unfolding Capi.sixteen

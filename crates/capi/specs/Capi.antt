@@ -3,7 +3,7 @@
 use mathlib.Core.Path.{_≡_}
 use mathlib.Core.Bool.{Bool, cond, not}
 use mathlib.Core.List.{List, _++_}
-use Prim.Native.Nat.{ℕ, zero, suc, _+_, _*_, _^_, _<_}
+use Prim.Native.Nat.{ℕ, zero, suc, _+_, _*_, _/_, _%_, _^_, _<_}
 use lib.Dec.{ltb, eqb}
 use lib.ListN.{length, take}
 use Rattle.octets.specs.Octets.{leBytes}
@@ -15,6 +15,7 @@ use Rattle.descriptor.specs.declared.BitCount.{BitCount}
 use Rattle.descriptor.specs.declared.Descriptor.{Descriptor}
 use Rattle.password.specs.Verdict as Verdict
 use Rattle.sheet.specs.Sheet as Sheet
+use Rattle.sheet.specs.declared.Reply as Told
 use Rattle.writer.specs.Written as Written
 
 -- ---- how values cross
@@ -22,6 +23,10 @@ use Rattle.writer.specs.Written as Written
 -- an answer and a size in one number
 unfoldable pub replyWord : ℕ → ℕ → ℕ
 replyWord answer size = answer + 65536 * size
+
+-- and what it tells again: ROPESHADOW_ANSWER and ROPESHADOW_SIZE of the header
+unfoldable pub told : ℕ → Told.Reply
+told w = Sheet.reply (w % 65536) (w / 65536)
 
 -- sixteen bytes of two numbers: the first eight, then the last, each low byte first
 unfoldable pub sixteen : ℕ → ℕ → List ℕ
@@ -74,6 +79,10 @@ pub record Outcome : Type 0 where
 
 abbrev pub outcome : ℕ → List ℕ → Outcome
 outcome w o = record { word = w; out = o }
+
+-- what its caller has then: the reply that the number tells, and the out parameter
+abbrev pub readBack : Outcome → Sheet.Left
+readBack o = Sheet.left (told (o .word)) (o .out)
 
 -- by its answer: with 0 the size, and what is written; with any other size 0, and the out parameter as it was
 unfoldable pub outcomeBy : (answer size : ℕ) (value out : List ℕ) → Outcome

@@ -1,5 +1,5 @@
 -- Our entries keep demand 1: each answers by its list of rules, and what an accepted call writes is as long as its size. Assumes nothing.
-use mathlib.Core.Path.{_≡_, sym, _∙_}
+use mathlib.Core.Path.{_≡_, refl, sym, _∙_}
 use mathlib.Core.Bool.{Bool}
 use mathlib.Core.List.{List}
 use Prim.Native.Nat.{ℕ, _≤_}
@@ -20,21 +20,22 @@ unfolding infoRules
 parse info =
     record {
       answer = rw (parsed-answer info) (listed (infoRules info));
-      refused = λ h. refused-fields info (λ z. h (parsed-answer info ∙ z));
+      refused = λ h. record { none = refl; same = refused-fields info (λ z. h (parsed-answer info ∙ z)) };
     }
 
 module _ (info password : List ℕ) where
+  -- what opens is as long as StreamSize says, and has room
+  pub open-fits : (s out : List ℕ) → firstOf (openRules info password s (length out)) ≡ 0
+      → (streamSize s ≡ length (packageOf info password s)) × (streamSize s ≤ length out)
+  open-fits s out z =
+      let k = open-zero info password s out (open-answer info password s out ∙ z) .1 in
+      (sym (length-package info password s (length out) k), k .roomy)
+
   open-call : (stream out : List ℕ) → Call openNumbers (packageOf info password stream) out (opened info password stream out)
   unfolding opened openRules verdictRules infoRules passwordRules streamRules
   open-call s out =
       ended-call openNumbers (firstOf (openRules info password s (length out))) (streamSize s) (packageOf info password s) out
-      (listed (openRules info password s (length out))) fits
-    where
-      fits : firstOf (openRules info password s (length out)) ≡ 0
-          → (streamSize s ≡ length (packageOf info password s)) × (streamSize s ≤ length out)
-      fits z =
-          let k = open-zero info password s out (open-answer info password s out ∙ z) .1 in
-          (sym (length-package info password s (length out) k), k .roomy)
+      (listed (openRules info password s (length out))) (open-fits s out)
 
   seal-call : (pack given : List ℕ) (extra : Bool) (out : List ℕ) → length given ≡ 16
       → Call sealNumbers (sealingOf info password (filledWith pack given extra)) out (sealed info password pack given extra out)
@@ -54,7 +55,7 @@ unfolding judged verdictRules infoRules passwordRules
 demand-1 =
     record {
       parsing = λ info. parse info;
-      judging = λ info password. listed (verdictRules info password);
+      judging = λ info password. record { answer = listed (verdictRules info password); refused = λ h. record { none = refl; same = refl } };
       opening = λ info password s out. open-call info password s out;
       sealing = λ info password pack given extra out g. seal-call info password pack given extra out g;
     }

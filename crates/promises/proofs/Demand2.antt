@@ -1,36 +1,32 @@
 -- Our entries keep demand 2: their definitions are what it says, read through the laws of the rules. Assumes nothing.
 use mathlib.Core.Path.{_≡_, ap}
 use mathlib.Core.Bool.{Bool}
-use mathlib.Core.List.{List, _++_}
-use Prim.Native.Nat.{ℕ, _+_, _-_, _≤_}
+use mathlib.Core.List.{List}
+use Prim.Native.Nat.{ℕ, _-_}
 use borrow.Author.Tests.{le-ltb, ltb-false, not-false}
-use lib.ListN.{length, take, drop, replicate}
-use Rattle.octets.specs.Octets.{leAt, leBytes}
+use lib.ListN.{length}
 use Rattle.octets.proofs.Equal.{same-self, same-true}
 use Rattle.answers.specs.Rules.{AllHold}
 use Rattle.answers.proofs.Laws.{none-broken, both-hold}
-use Rattle.aes.specs.Aes.{encryption, decryption}
 use Rattle.descriptor.specs.Info.{infoRules, described, parsed}
 use Rattle.descriptor.proofs.Laws.{info-numbered, parsed-answer, parsed-fields}
 use Rattle.password.specs.Verdict.{keyOf, verifierHash, matches, passwordRules, verdictRules, judged}
-use Rattle.blocks.specs.Blocks.{ecb}
 use Rattle.sheet.specs.Frame.{streamSize, streamOf, pairOf}
-use Rattle.sheet.specs.Sheet.{fillingFor, rounded, sealedSize, openRules, sealRules, sheetKey, sealing, opening, packageOf, filledWith, sealingOf}
-use Rattle.sheet.specs.Sheet.{left, reply, ended, opened, sealed}
+use Rattle.sheet.specs.Sheet.{rounded, sealedSize, openRules, sealRules, sheetKey, sealing, opening, packageOf, filledWith, sealingOf}
+use Rattle.sheet.specs.Sheet.{ended, opened, sealed}
 use Rattle.sheet.proofs.Laws.{verdict-numbered, open-numbered, open-answer, seal-numbered, seal-answer}
-use Rattle.promises.specs.Words.{publishedKey}
-use Rattle.promises.specs.Demand2.{Matches, Demand2}
+use Rattle.promises.specs.Demand2.{Accepts, publishedPackage, publishedStream, Demand2}
 use Rattle.promises.proofs.Ended.{by-rules}
 
 module _ (info password : List ℕ) where
-  to-verdict : judged info password ≡ 0 → AllHold (infoRules info) × (length password ≤ 255) × Matches info (publishedKey info password)
+  to-verdict : judged info password ≡ 0 → Accepts info password
   unfolding judged verdictRules passwordRules keyOf described matches verifierHash
   to-verdict h =
       let all : AllHold (verdictRules info password) = none-broken (verdictRules info password) (verdict-numbered info password) .0 h in
       let k = both-hold (infoRules info) (passwordRules (described info) password) .0 all in
       (k .0, ltb-false _ _ (k .1 .0), same-true _ _ (not-false _ (k .1 .1 .0)))
 
-  of-verdict : AllHold (infoRules info) × (length password ≤ 255) × Matches info (publishedKey info password) → judged info password ≡ 0
+  of-verdict : Accepts info password → judged info password ≡ 0
   unfolding judged verdictRules passwordRules keyOf described matches verifierHash
   of-verdict h =
       let two : AllHold (passwordRules (described info) password) = (le-ltb _ _ (h .1), (rw (h .2, same-self), tt)) in
@@ -38,19 +34,14 @@ module _ (info password : List ℕ) where
       .1 (both-hold (infoRules info) (passwordRules (described info) password) .1 (h .0, two))
 
   open-gives : (stream out : List ℕ) → AllHold (openRules info password stream (length out))
-      → let size : ℕ = leAt 8 0 stream in
-      let plain : List ℕ = ecb (decryption (publishedKey info password)) (drop 8 stream) in
-      opened info password stream out ≡ left (reply 0 size) (take size plain ++ replicate (length out - size) 0)
+      → opened info password stream out ≡ publishedPackage info password stream out
   unfolding opened ended packageOf pairOf streamSize opening sheetKey keyOf described
   open-gives s out h =
       ap (λ (n : ℕ). ended n (streamSize s) (packageOf info password s) out)
       (none-broken (openRules info password s (length out)) (open-numbered info password s out) .1 h)
 
   seal-gives : (pack given : List ℕ) (extra : Bool) (out : List ℕ) → AllHold (sealRules info password extra (length pack) (length out))
-      → let filling : ℕ = fillingFor extra (length pack) in
-      let size : ℕ = 8 + (length pack + filling) in
-      let stream : List ℕ = leBytes 8 (length pack) ++ ecb (encryption (publishedKey info password)) (pack ++ take filling given) in
-      sealed info password pack given extra out ≡ left (reply 0 size) (stream ++ replicate (length out - size) 0)
+      → sealed info password pack given extra out ≡ publishedStream info password pack given extra out
   unfolding sealed ended sealedSize rounded sealingOf streamOf filledWith sealing sheetKey keyOf described
   seal-gives pack given extra out h =
       ap (λ (n : ℕ). ended n (sealedSize extra (length pack)) (sealingOf info password (filledWith pack given extra)) out)

@@ -36,9 +36,9 @@ module _ (numbers content out : List ℕ) (x y : Left) (c : Call numbers content
       let s : x .reply .size ≡ y .reply .size = p .size ∙ sym (q .size) in
       alike s (p .bytes ∙ ap (λ (n : ℕ). content ++ replicate (length out - n) 0) s ∙ sym (q .bytes))
   by-answer (suc n) z =
-      let p = c .refused (λ w. omega arith) in
-      let q = d .refused (λ w. omega arith) in
-      alike (p .size ∙ sym (q .size)) (p .bytes ∙ sym (q .bytes))
+      let p = c .ends .refused (λ w. omega arith) in
+      let q = d .ends .refused (λ w. omega arith) in
+      alike (p .none ∙ sym (q .none)) (p .same ∙ sym (q .same))
 
   one-left : x ≡ y
   one-left = by-answer (x .reply .answer) refl
@@ -57,7 +57,7 @@ module _ (parses : Parser) (judges : Judge) (opens : Opener) (seals : Sealer)
         let h = two .parse-answer info .none .0 z in
         two .descriptor info h ∙ sym (demand-2 .descriptor info h)
     same-fields (suc n) z =
-        one .parsing info .refused (λ w. omega arith) ∙ sym (demand-1 .parsing info .refused (λ w. omega (arith, same-answer)))
+        one .parsing info .refused (λ w. omega arith) .same ∙ sym (demand-1 .parsing info .refused (λ w. omega (arith, same-answer)) .same)
 
     pub the-parser : parses info ≡ parsed info
     the-parser = λ i. record { answer = same-answer i; fields = same-fields (parses info .answer) refl i }

@@ -23,7 +23,7 @@ use Rattle.promises.proofs.Ended.{ended-call, by-rules}
 use Rattle.promises.proofs.Demand3.{demand-3}
 
 -- `write_info`
-pub writes : Writer
+unfoldable pub writes : Writer
 writes i out = Written.written (i .bits) (i .password) (i .name) (i .salt) (i .verifier) (i .filling) out
 
 module _ (i : Input) (out : List ℕ) (t : Typed i) where

@@ -14,14 +14,37 @@ use Rattle.aes.specs.Aes.{encryption, decryption}
 use Rattle.descriptor.specs.Info.{infoRules, described, encryptedVerifier, encryptedVerifierHash}
 use Rattle.password.specs.Verdict.{verdictRules}
 use Rattle.blocks.specs.Blocks.{ecb}
-use Rattle.sheet.specs.Sheet.{left, reply, fillingFor, openRules, sealRules}
+use Rattle.sheet.specs.Sheet.{Left, left, reply, fillingFor, openRules, sealRules}
 use Rattle.promises.specs.Words.{Parser, Judge, Opener, Sealer, Answers, publishedKey}
+
+-- ---- what the published scheme gives
 
 -- the hash of the decrypted verifier is the first 20 of the 32 bytes of the decrypted verifier hash
 abbrev pub Matches : (info key : List ℕ) → Type 0
 Matches info key =
     sha1 (decryption key (encryptedVerifier info))
     ≡ take 20 (decryption key (take 16 (encryptedVerifierHash info)) ++ decryption key (drop 16 (encryptedVerifierHash info)))
+
+-- the descriptor is admitted, and the password, not too long, matches the verifier
+abbrev pub Accepts : (info password : List ℕ) → Type 0
+Accepts info password = AllHold (infoRules info) × (length password ≤ 255) × Matches info (publishedKey info password)
+
+-- the package is the stream after its first eight bytes, decrypted block by block and cut to the size that all eight tell
+abbrev pub publishedPackage : (info password stream out : List ℕ) → Left
+publishedPackage info password stream out =
+    let size : ℕ = leAt 8 0 stream in
+    let plain : List ℕ = ecb (decryption (publishedKey info password)) (drop 8 stream) in
+    left (reply 0 size) (take size plain ++ replicate (length out - size) 0)
+
+-- the sealed stream is the size in eight bytes, then package and filling encrypted block by block
+abbrev pub publishedStream : (info password pack given : List ℕ) (extra : Bool) (out : List ℕ) → Left
+publishedStream info password pack given extra out =
+    let filling : ℕ = fillingFor extra (length pack) in
+    let size : ℕ = 8 + (length pack + filling) in
+    let stream : List ℕ = leBytes 8 (length pack) ++ ecb (encryption (publishedKey info password)) (pack ++ take filling given) in
+    left (reply 0 size) (stream ++ replicate (length out - size) 0)
+
+-- ---- the demand
 
 pub record Demand2 (parses : Parser) (judges : Judge) (opens : Opener) (seals : Sealer) : Type 0 where
   -- each answer is by the rules, so that something comes out exactly where none is broken
@@ -33,18 +56,9 @@ pub record Demand2 (parses : Parser) (judges : Judge) (opens : Opener) (seals : 
       → Answers (sealRules info password extra (length pack) (length out)) (seals info password pack given extra out .reply .answer)
   -- the descriptor is what the stream says
   pub descriptor : (info : List ℕ) → AllHold (infoRules info) → parses info .fields ≡ described info
-  -- a password is accepted exactly where the descriptor is admitted and the password, not too long, matches the verifier
-  pub verdict : (info password : List ℕ)
-      → (judges info password ≡ 0) ↔ (AllHold (infoRules info) × (length password ≤ 255) × Matches info (publishedKey info password))
-  -- the package is the stream after its first eight bytes, decrypted block by block and cut to the size that all eight tell
+  pub verdict : (info password : List ℕ) → (judges info password ≡ 0) ↔ Accepts info password
   pub opening : (info password stream out : List ℕ) → AllHold (openRules info password stream (length out))
-      → let size : ℕ = leAt 8 0 stream in
-      let plain : List ℕ = ecb (decryption (publishedKey info password)) (drop 8 stream) in
-      opens info password stream out ≡ left (reply 0 size) (take size plain ++ replicate (length out - size) 0)
-  -- the sealed stream is the size in eight bytes, then package and filling encrypted block by block
+      → opens info password stream out ≡ publishedPackage info password stream out
   pub sealing : (info password pack given : List ℕ) (extra : Bool) (out : List ℕ) → length given ≡ 16
       → AllHold (sealRules info password extra (length pack) (length out))
-      → let filling : ℕ = fillingFor extra (length pack) in
-      let size : ℕ = 8 + (length pack + filling) in
-      let stream : List ℕ = leBytes 8 (length pack) ++ ecb (encryption (publishedKey info password)) (pack ++ take filling given) in
-      seals info password pack given extra out ≡ left (reply 0 size) (stream ++ replicate (length out - size) 0)
+      → seals info password pack given extra out ≡ publishedStream info password pack given extra out

@@ -6,3 +6,5 @@ pub mod Cases
 pub mod Possible
 pub mod NewInfo
 pub mod ExtraBlock
+pub mod EveryCall
+pub mod Calls

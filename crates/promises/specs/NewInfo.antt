@@ -50,7 +50,7 @@ abbrev pub keyFor : Input → List ℕ
 keyFor i = keyBytes (i .bits / 8) (i .salt) (i .password)
 
 abbrev pub writeNumbers : List ℕ
-writeNumbers = 0 ∷ 3 ∷ 5 ∷ 8 ∷ 11 ∷ 16 ∷ []
+writeNumbers = 3 ∷ 5 ∷ 8 ∷ 11 ∷ 16 ∷ []
 
 -- the input is within the limits, and its stream within the room
 pub record Within (i : Input) (room : ℕ) : Type 0 where

@@ -1,4 +1,11 @@
-// The three demands and the cases P1 to P12 of 01, and what request 2026-01 asks of new descriptors, as theorems over the entries' own
-// definitions. There is no code here: specs/ says what is promised, in the order Words, One, Two, Three, Cases, Possible, NewInfo;
-// proofs/ proves it, and shows that the promises leave nothing open, that wrong entries break them, and that none of them holds for want
-// of an instance.
+// What is promised: the three demands and the cases P1 to P12 of 01, what request 2026-01 asks of new descriptors and 2026-02 of the
+// extra block. specs/ says it, in the order Words, Demand1 to Demand3, Cases, Possible, NewInfo, ExtraBlock, EveryCall, Calls. proofs/
+// proves it of the entries' definitions, and shows that the promises leave nothing open, that wrong entries break them, and that none of
+// them holds for want of an instance.
+//
+// The functions tie the promises to the code. Each calls a real entry (or two, one after the other) and does nothing else; what it
+// ensures is the demands' own statement about that call (specs/Calls.antt). An entry whose contract said less, or something else, would
+// leave one of them unproved. They are for the checker: no user calls them.
+mod entries;
+mod from_c;
+mod there_and_back;

@@ -1,0 +1,105 @@
+-- What a C function returns and leaves keeps the demands on the call that it makes: its number loses nothing, and a refusal leaves the out
+-- parameter. Assumes nothing.
+use mathlib.Core.Path.{_≡_, refl, ap, subst⁻¹}
+use mathlib.Core.Logic.{_↔_}
+use mathlib.Core.Bool.{true}
+use mathlib.Core.List.{List, _∷_}
+use Prim.Native.Nat.{ℕ, zero, suc}
+use native.Mathlib.Omega.{arith}
+use lib.ListN.{length}
+use Rattle.answers.specs.Rules.{OneOf}
+use Rattle.sha1.specs.Sha1.{sha1, hashRules, hashed}
+use Rattle.aes.specs.Aes.{keyLength, encryption, decryption, encrypted, decrypted}
+use Rattle.aes.specs.declared.Reply as Aes
+use Rattle.descriptor.specs.Info.{infoRules, described, parsed}
+use Rattle.sheet.specs.Sheet.{Left, left, reply}
+use Rattle.sheet.specs.declared.Reply.{Reply}
+use Rattle.capi.specs.Capi as Capi
+use Rattle.capi.proofs.Lossless.{hash-told, encrypt-told, decrypt-told, parse-told, verdict-told, open-told, seal-told, write-told, length-sixteen, length-twelve}
+use Rattle.promises.specs.Words.{Answers}
+use Rattle.promises.specs.Demand1.{infoNumbers}
+use Rattle.promises.specs.EveryCall.{hashNumbers, blockNumbers}
+use Rattle.promises.specs.Calls.{Enciphering, Opening, Sealing, Writing, Value, HashOut, BlockOut, DescriptorOut, VerdictOut, input}
+use Rattle.promises.proofs.NewInfo.{writes}
+use Rattle.promises.proofs.Calls.{hashing, encrypting, decrypting, parsing, judging, opening, sealing, writing}
+
+-- what is so of the outcome that a function ensures is so of what its caller has
+pub carried : (P : Left → Type 0) {w : ℕ} {now : List ℕ} {o : Capi.Outcome} → Capi.outcome w now ≡ o → P (Capi.readBack o) → P (left (Capi.told w) now)
+carried P e p = subst⁻¹ (λ (o : Capi.Outcome). P (Capi.readBack o)) e p
+
+-- ---- an out parameter of fixed length
+
+-- it is written on answer 0 alone, with what is the value then
+valued : (numbers : List ℕ) (n : ℕ) (bytes value out : List ℕ) → OneOf (0 ∷ numbers) n → (n ≡ 0 → bytes ≡ value)
+    → Capi.told (Capi.outcomeBy n 0 bytes out .word) ≡ reply n 0 → Value numbers value out (Capi.readBack (Capi.outcomeBy n 0 bytes out))
+unfolding Capi.outcomeBy
+valued numbers zero bytes value out o e t =
+    subst⁻¹ (λ (r : Reply). Value numbers value out (left r bytes)) t
+    (record { ends = record { answer = o; refused = λ h. absurd (h refl) }; sizeless = refl; accepted = λ h. e refl })
+valued numbers (suc n) bytes value out o e t =
+    subst⁻¹ (λ (r : Reply). Value numbers value out (left r out)) t
+    (record { ends = record { answer = o; refused = λ h. record { none = refl; same = refl } }; sizeless = refl; accepted = λ h. absurd (omega arith) })
+
+pub hash-out : (message out : List ℕ) → HashOut message out (Capi.readBack (Capi.hashOutcome message out))
+unfolding Capi.hashOutcome
+hash-out message out =
+    let k = hashing message in
+    record {
+      value = valued hashNumbers (hashed message .answer) (hashed message .bytes) (sha1 message) out (k .ends .answer) (λ z. k .published (k .answers .none .0 z))
+          (hash-told message out);
+      answers = subst⁻¹ (λ (r : Reply). Answers (hashRules message) (r .answer)) (hash-told message out) (k .answers);
+    }
+
+block-out : (cipher : (key block : List ℕ) → List ℕ) (key block out : List ℕ) (r : Aes.Reply) → Enciphering cipher key block r
+    → Capi.told (Capi.blockOutcome r out .word) ≡ reply (r .answer) 0 → BlockOut cipher key block out (Capi.readBack (Capi.blockOutcome r out))
+unfolding Capi.blockOutcome
+block-out cipher key block out r k t =
+    record {
+      value = valued blockNumbers (r .answer) (r .block) (cipher key block) out (k .ends .answer) (k .published) t;
+      accepts = subst⁻¹ (λ (x : Reply). (x .answer ≡ 0) ↔ (keyLength (length key) ≡ true)) t (k .accepts);
+    }
+
+module _ (key : List ℕ) (low high : ℕ) (out : List ℕ) where
+  pub encrypt-out : BlockOut encryption key (Capi.sixteen low high) out (Capi.readBack (Capi.encryptOutcome key low high out))
+  unfolding Capi.encryptOutcome
+  encrypt-out = block-out encryption key _ out (encrypted key (Capi.sixteen low high)) (encrypting key _) (encrypt-told key low high out)
+
+  pub decrypt-out : BlockOut decryption key (Capi.sixteen low high) out (Capi.readBack (Capi.decryptOutcome key low high out))
+  unfolding Capi.decryptOutcome
+  decrypt-out = block-out decryption key _ out (decrypted key (Capi.sixteen low high)) (decrypting key _) (decrypt-told key low high out)
+
+pub descriptor-out : (info out : List ℕ) → DescriptorOut info out (Capi.readBack (Capi.parseOutcome info out))
+unfolding Capi.parseOutcome
+descriptor-out info out =
+    let k = parsing info in
+    record {
+      value = valued infoNumbers (parsed info .answer) _ (Capi.descriptorBytes (described info)) out (k .ends .answer)
+          (λ z. ap Capi.descriptorBytes (k .published (k .answers .none .0 z))) (parse-told info out);
+      answers = subst⁻¹ (λ (r : Reply). Answers (infoRules info) (r .answer)) (parse-told info out) (k .answers);
+    }
+
+module _ (info password : List ℕ) where
+  pub verdict-out : VerdictOut info password (Capi.told (Capi.verdictWord info password))
+  verdict-out = subst⁻¹ (VerdictOut info password) (verdict-told info password) (record { judged = judging info password; sizeless = refl })
+
+  -- ---- a lent output
+
+  pub open-out : (stream out : List ℕ) → Opening info password stream out (Capi.readBack (Capi.openOutcome info password stream out))
+  open-out s out = subst⁻¹ (Opening info password s out) (open-told info password s out) (opening info password s out)
+
+  pub seal-out : (pack : List ℕ) (low high extra : ℕ) (out : List ℕ)
+      → Sealing info password pack (Capi.sixteen low high) (Capi.chosen extra) out (Capi.readBack (Capi.sealOutcome info password pack low high extra out))
+  seal-out pack low high extra out =
+      subst⁻¹ (Sealing info password pack _ _ out) (seal-told info password pack low high extra out)
+      (sealing info password pack _ _ out (length-sixteen low high))
+
+pub write-out : (bits : ℕ) (password name : List ℕ) (saltLow saltHigh verifierLow verifierHigh fillingLow fillingHigh : ℕ) (out : List ℕ)
+    → let salt = Capi.sixteen saltLow saltHigh in
+    let verifier = Capi.sixteen verifierLow verifierHigh in
+    let filling = Capi.twelve fillingLow fillingHigh in
+    Writing (input (Capi.bitCount bits .0) password name salt verifier filling) out
+    (Capi.readBack (Capi.writeOutcome bits password name saltLow saltHigh verifierLow verifierHigh fillingLow fillingHigh out))
+unfolding writes
+write-out bits password name saltLow saltHigh verifierLow verifierHigh fillingLow fillingHigh out =
+    subst⁻¹ (Writing _ out) (write-told bits password name saltLow saltHigh verifierLow verifierHigh fillingLow fillingHigh out)
+    (writing _ out (record { salt = length-sixteen _ _; verifier = length-sixteen _ _; filling = length-twelve _ _ }))
