@@ -40,7 +40,7 @@ module _ (numbers content out : List ℕ) (x y : Left) (c : Call numbers content
       let q = d .ends .refused (λ w. omega arith) in
       alike (p .none ∙ sym (q .none)) (p .same ∙ sym (q .same))
 
-  one-left : x ≡ y
+  pub one-left : x ≡ y
   one-left = by-answer (x .reply .answer) refl
 
 module _ (parses : Parser) (judges : Judge) (opens : Opener) (seals : Sealer)

@@ -4,8 +4,9 @@
 // them holds for want of an instance.
 //
 // The functions tie the promises to the code. Each calls a real entry (or two, one after the other) and does nothing else; what it
-// ensures is the demands' own statement about that call (specs/Calls.antt). An entry whose contract said less, or something else, would
-// leave one of them unproved. They are for the checker: no user calls them.
+// ensures is the demands' own statement about that call (specs/Calls.antt). From that statement the entry's own contract follows
+// (proofs/OneCall.antt), so an entry whose contract said less would leave a function unproved. They are for the checker: no user calls
+// them.
 mod entries;
 mod from_c;
 mod there_and_back;

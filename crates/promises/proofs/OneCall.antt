@@ -1,0 +1,169 @@
+-- What is promised of one call fixes it: whoever keeps the demands on a call gave and left what the definition says. So an entry from
+-- whose contract they follow has, of every call, the contract that it has now, and none that says less lets them through. Assumes nothing.
+use mathlib.Core.Path.{_≡_, refl, sym, ap, _∙_}
+use mathlib.Core.Logic.{inl, inr}
+use mathlib.Core.Bool.{Bool}
+use mathlib.Core.List.{List, _∷_}
+use Prim.Native.Nat.{ℕ, zero, suc}
+use native.Mathlib.Omega.{arith}
+use lib.ListN.{length}
+use Rattle.answers.specs.Rules.{OneOf}
+use Rattle.sha1.specs.Sha1.{sha1, hashRules, hashed}
+use Rattle.sha1.specs.declared.Hashed.{Hashed}
+use Rattle.aes.specs.Aes.{encryption, decryption, encrypted, decrypted}
+use Rattle.aes.specs.declared.Reply as Aes
+use Rattle.descriptor.specs.Info.{infoRules, described, parsed}
+use Rattle.descriptor.specs.declared.Parsed.{Parsed}
+use Rattle.password.specs.Verdict.{judged, verdictRules}
+use Rattle.sheet.specs.Sheet.{Left, left, reply, openRules, sealRules, packageOf, filledWith, sealingOf, opened, sealed}
+use Rattle.sheet.specs.declared.Reply.{Reply}
+use Rattle.files.specs.Files.{File, units, rules, filesOpened}
+use Rattle.capi.specs.Capi as Capi
+use Rattle.capi.proofs.Lossless.{verdict-told, open-told, seal-told, write-told, length-sixteen, length-twelve}
+use Rattle.promises.specs.Demand1.{Concludes, infoNumbers, openNumbers, sealNumbers}
+use Rattle.promises.specs.NewInfo.{Input, Typed, rulesFor, infoFor, writeNumbers}
+use Rattle.promises.specs.EveryCall.{hashNumbers, blockNumbers, fileNumbers}
+use Rattle.promises.specs.Calls.{Hashing, Enciphering, Parsing, Judging, Opening, Sealing, Writing, FilesOpening, Value, HashOut, BlockOut, DescriptorOut, VerdictOut, input}
+use Rattle.promises.proofs.NewInfo.{writes}
+use Rattle.promises.proofs.Fixed.{one-answer, one-left}
+use Rattle.promises.proofs.Calls.{hashing, encrypting, decrypting, parsing, judging, opening, sealing, writing, opening-files}
+use Rattle.promises.proofs.Outside.{hash-out, encrypt-out, decrypt-out, descriptor-out}
+
+-- two calls that end with one answer give the same if they do where it is 0
+one-given : {A : Type 0} (numbers : List ℕ) (always : A) (n m s t : ℕ) (x y : A) → Concludes numbers always n s x → Concludes numbers always m t y
+    → n ≡ m → (n ≡ 0 → x ≡ y) → x ≡ y
+one-given numbers always zero m s t x y c d e f = f refl
+one-given numbers always (suc n) m s t x y c d e f = c .refused (λ w. omega arith) .same ∙ sym (d .refused (λ w. omega (arith, e)) .same)
+
+-- an answer that is 0 or 8, by where it is 0
+one-of-two : (n m : ℕ) → OneOf (0 ∷ blockNumbers) n → OneOf (0 ∷ blockNumbers) m → (n ≡ 0 → m ≡ 0) → (m ≡ 0 → n ≡ 0) → n ≡ m
+one-of-two n m (inl e) b f g = e ∙ sym (f e)
+one-of-two n m (inr (inl e)) (inl h) f g = g h ∙ sym h
+one-of-two n m (inr (inl e)) (inr (inl h)) f g = e ∙ sym h
+one-of-two n m (inr (inl e)) (inr (inr h)) f g = absurd h
+one-of-two n m (inr (inr e)) b f g = absurd e
+
+-- ---- of the entries
+
+pub one-hashing : (message : List ℕ) (h : Hashed) → Hashing message h → h ≡ hashed message
+one-hashing m h k =
+    let d = hashing m in
+    let a : h .answer ≡ hashed m .answer = one-answer (hashRules m) _ _ (k .answers) (d .answers) in
+    let b : h .bytes ≡ hashed m .bytes =
+    one-given _ _ _ _ 0 0 _ _ (k .ends) (d .ends) a (λ z. let r = k .answers .none .0 z in k .published r ∙ sym (d .published r)) in
+    λ i. record { answer = a i; bytes = b i }
+
+-- of a block, by either direction: the key's length decides the answer
+one-enciphering : (cipher : (key block : List ℕ) → List ℕ) (key block : List ℕ) (r s : Aes.Reply) → Enciphering cipher key block r → Enciphering cipher key block s → r ≡ s
+one-enciphering cipher key block r s k d =
+    let a : r .answer ≡ s .answer = one-of-two (r .answer) (s .answer) (k .ends .answer) (d .ends .answer) (λ z. d .accepts .1 (k .accepts .0 z)) (λ z. k .accepts .1 (d .accepts .0 z)) in
+    let b : r .block ≡ s .block = one-given _ _ _ _ 0 0 _ _ (k .ends) (d .ends) a (λ z. k .published z ∙ sym (d .published (sym a ∙ z))) in
+    λ i. record { answer = a i; block = b i }
+
+module _ (key block : List ℕ) (r : Aes.Reply) where
+  pub one-encrypting : Enciphering encryption key block r → r ≡ encrypted key block
+  one-encrypting k = one-enciphering encryption key block r _ k (encrypting key block)
+
+  pub one-decrypting : Enciphering decryption key block r → r ≡ decrypted key block
+  one-decrypting k = one-enciphering decryption key block r _ k (decrypting key block)
+
+pub one-parsing : (info : List ℕ) (p : Parsed) → Parsing info p → p ≡ parsed info
+one-parsing info p k =
+    let d = parsing info in
+    let a : p .answer ≡ parsed info .answer = one-answer (infoRules info) _ _ (k .answers) (d .answers) in
+    let f : p .fields ≡ parsed info .fields =
+    one-given _ _ _ _ 0 0 _ _ (k .ends) (d .ends) a (λ z. let r = k .answers .none .0 z in k .published r ∙ sym (d .published r)) in
+    λ i. record { answer = a i; fields = f i }
+
+pub one-judging : (info password : List ℕ) (n : ℕ) → Judging info password n → n ≡ judged info password
+one-judging info password n k = one-answer (verdictRules info password) _ _ (k .answers) (judging info password .answers)
+
+pub one-opening : (info password stream out : List ℕ) (l : Left) → Opening info password stream out l → l ≡ opened info password stream out
+one-opening info password s out l k =
+    let d = opening info password s out in
+    one-left openNumbers (packageOf info password s) out _ _ (k .call) (d .call) (one-answer (openRules info password s (length out)) _ _ (k .answers) (d .answers))
+
+pub one-sealing : (info password pack given : List ℕ) (extra : Bool) (out : List ℕ) → length given ≡ 16 → (l : Left)
+    → Sealing info password pack given extra out l → l ≡ sealed info password pack given extra out
+one-sealing info password pack given extra out g l k =
+    let d = sealing info password pack given extra out g in
+    one-left sealNumbers (sealingOf info password (filledWith pack given extra)) out _ _ (k .call) (d .call)
+    (one-answer (sealRules info password extra (length pack) (length out)) _ _ (k .answers) (d .answers))
+
+pub one-writing : (i : Input) (out : List ℕ) → Typed i → (l : Left) → Writing i out l → l ≡ writes i out
+one-writing i out t l k =
+    let d = writing i out t in
+    one-left writeNumbers (infoFor i) out _ _ (k .call) (d .call) (one-answer (rulesFor i (length out)) _ _ (k .answers) (d .answers))
+
+pub one-files : (info password stream : File) (out : List ℕ) (l : Left) → FilesOpening info password stream out l → l ≡ filesOpened info password stream out
+one-files info password s out l k =
+    let d = opening-files info password s out in
+    one-left fileNumbers (packageOf (info .bytes) (units (password .bytes)) (s .bytes)) out _ _ (k .call) (d .call)
+    (one-answer (rules info password s (length out)) _ _ (k .answers) (d .answers))
+
+-- ---- the same from C
+
+-- a number is known by the reply that it tells
+one-told : (w v : ℕ) → Capi.told w ≡ Capi.told v → w ≡ v
+unfolding Capi.told
+one-told w v e = omega (arith, ap (λ (r : Reply). r .answer) e, ap (λ (r : Reply). r .size) e)
+
+one-outcome : (w : ℕ) (now : List ℕ) (o : Capi.Outcome) → left (Capi.told w) now ≡ Capi.readBack o → Capi.outcome w now ≡ o
+one-outcome w now o e =
+    let n : w ≡ o .word = one-told w (o .word) (ap (λ (l : Left). l .reply) e) in
+    λ i. Capi.outcome (n i) (ap (λ (l : Left). l .out) e i)
+
+one-value : (numbers value out : List ℕ) (x y : Left) → Value numbers value out x → Value numbers value out y → x .reply .answer ≡ y .reply .answer → x ≡ y
+one-value numbers value out x y c d e =
+    let o : x .out ≡ y .out = one-given _ _ _ _ _ _ _ _ (c .ends) (d .ends) e (λ z. c .accepted z ∙ sym (d .accepted (sym e ∙ z))) in
+    λ i. left (reply (e i) ((c .sizeless ∙ sym (d .sizeless)) i)) (o i)
+
+-- a block's, by either direction
+one-block : (cipher : (key block : List ℕ) → List ℕ) (key block out : List ℕ) (x y : Left) → BlockOut cipher key block out x → BlockOut cipher key block out y → x ≡ y
+one-block cipher key block out x y k d =
+    one-value blockNumbers (cipher key block) out x y (k .value) (d .value)
+    (one-of-two _ _ (k .value .ends .answer) (d .value .ends .answer) (λ z. d .accepts .1 (k .accepts .0 z)) (λ z. k .accepts .1 (d .accepts .0 z)))
+
+module _ (w : ℕ) (now : List ℕ) where
+  pub c-hashing : (message out : List ℕ) → HashOut message out (left (Capi.told w) now) → Capi.outcome w now ≡ Capi.hashOutcome message out
+  c-hashing m out k =
+      let d = hash-out m out in
+      one-outcome w now _ (one-value hashNumbers (sha1 m) out _ _ (k .value) (d .value) (one-answer (hashRules m) _ _ (k .answers) (d .answers)))
+
+  module _ (key : List ℕ) (low high : ℕ) (out : List ℕ) where
+    pub c-encrypting : BlockOut encryption key (Capi.sixteen low high) out (left (Capi.told w) now) → Capi.outcome w now ≡ Capi.encryptOutcome key low high out
+    c-encrypting k = one-outcome w now _ (one-block encryption key _ out _ _ k (encrypt-out key low high out))
+
+    pub c-decrypting : BlockOut decryption key (Capi.sixteen low high) out (left (Capi.told w) now) → Capi.outcome w now ≡ Capi.decryptOutcome key low high out
+    c-decrypting k = one-outcome w now _ (one-block decryption key _ out _ _ k (decrypt-out key low high out))
+
+  pub c-parsing : (info out : List ℕ) → DescriptorOut info out (left (Capi.told w) now) → Capi.outcome w now ≡ Capi.parseOutcome info out
+  c-parsing info out k =
+      let d = descriptor-out info out in
+      one-outcome w now _
+      (one-value infoNumbers (Capi.descriptorBytes (described info)) out _ _ (k .value) (d .value) (one-answer (infoRules info) _ _ (k .answers) (d .answers)))
+
+  pub c-judging : (info password : List ℕ) → VerdictOut info password (Capi.told w) → w ≡ Capi.verdictWord info password
+  c-judging info password k =
+      let n = one-judging info password _ (k .judged) in
+      let r : Capi.told w ≡ reply (judged info password) 0 = λ i. reply (n i) (k .sizeless i) in
+      one-told w _ (r ∙ sym (verdict-told info password))
+
+  pub c-opening : (info password stream out : List ℕ) → Opening info password stream out (left (Capi.told w) now)
+      → Capi.outcome w now ≡ Capi.openOutcome info password stream out
+  c-opening info password s out k = one-outcome w now _ (one-opening info password s out _ k ∙ sym (open-told info password s out))
+
+  pub c-sealing : (info password pack : List ℕ) (low high extra : ℕ) (out : List ℕ)
+      → Sealing info password pack (Capi.sixteen low high) (Capi.chosen extra) out (left (Capi.told w) now)
+      → Capi.outcome w now ≡ Capi.sealOutcome info password pack low high extra out
+  c-sealing info password pack low high extra out k =
+      one-outcome w now _ (one-sealing info password pack _ _ out (length-sixteen low high) _ k ∙ sym (seal-told info password pack low high extra out))
+
+  pub c-writing : (bits : ℕ) (password name : List ℕ) (sl sh vl vh fl fh : ℕ) (out : List ℕ)
+      → Writing (input (Capi.bitCount bits .0) password name (Capi.sixteen sl sh) (Capi.sixteen vl vh) (Capi.twelve fl fh)) out (left (Capi.told w) now)
+      → Capi.outcome w now ≡ Capi.writeOutcome bits password name sl sh vl vh fl fh out
+  unfolding writes
+  c-writing bits password name sl sh vl vh fl fh out k =
+      one-outcome w now _
+      (one-writing _ out (record { salt = length-sixteen _ _; verifier = length-sixteen _ _; filling = length-twelve _ _ }) _ k
+      ∙ sym (write-told bits password name sl sh vl vh fl fh out))
