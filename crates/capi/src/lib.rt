@@ -10,8 +10,7 @@
 // `const uint16_t *, size_t`, `&mut [u8]` is `uint8_t *, size_t`. A `&mut [u8; 20]` is one, `uint8_t *`, to that many bytes; `u64` is
 // `uint64_t`. Sixteen bytes by value are two numbers, the first eight bytes and then the last, each low byte first.
 //
-// Nothing checks what C passes: a pointer leads to as many elements as its count says and is never null, and `out` shares no byte with
-// anything else lent.
+// Nothing checks what C passes: include/ropeshadow.h has what a caller owes.
 ghost use mathlib.Core.Path.{_≡_};
 ghost use Rattle.capi.specs.Capi as Capi;
 ghost use Rattle.capi.specs.Capi.{outcome};

@@ -129,8 +129,13 @@ invSub-byte = look-byte invSbox length-invSbox invSbox-bytes
 
 -- ---- the inverse table by its own rule: the byte whose inverse in the field, turned, is x (5.3.2)
 
+stands-back : (x : ℕ) → x < 256 → T (eqb (substituted (getD invSbox x 0)) x)
+unfolding substituted invSbox inverse powers affine rotate mul mulBy bit double xor
+stands-back = at (λ x y. eqb (substituted y) x) invSbox tt
+
 pub invSub-rule : (x : ℕ) → x < 256 → substituted (look invSbox x) ≡ x
-invSub-rule x l = sym (sub-rule (look invSbox x) (invSub-byte x l)) ∙ resub x
+invSub-rule x l =
+    ap substituted (look-in invSbox x (omega (arith, length-invSbox))) ∙ eqb→eq (substituted (getD invSbox x 0)) x (stands-back x l)
 
 -- ---- the round constants are the powers of x
 

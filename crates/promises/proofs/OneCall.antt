@@ -7,7 +7,7 @@ use mathlib.Core.List.{List, _∷_}
 use Prim.Native.Nat.{ℕ, zero, suc}
 use native.Mathlib.Omega.{arith}
 use lib.ListN.{length}
-use Rattle.answers.specs.Rules.{OneOf}
+use Rattle.answers.specs.Rules.{Rule, AllHold, OneOf}
 use Rattle.sha1.specs.Sha1.{sha1, hashRules, hashed}
 use Rattle.sha1.specs.declared.Hashed.{Hashed}
 use Rattle.aes.specs.Aes.{encryption, decryption, encrypted, decrypted}
@@ -20,6 +20,7 @@ use Rattle.sheet.specs.declared.Reply.{Reply}
 use Rattle.files.specs.Files.{File, units, rules, filesOpened}
 use Rattle.capi.specs.Capi as Capi
 use Rattle.capi.proofs.Lossless.{verdict-told, open-told, seal-told, write-told, length-sixteen, length-twelve}
+use Rattle.promises.specs.Words.{Answers}
 use Rattle.promises.specs.Demand1.{Concludes, infoNumbers, openNumbers, sealNumbers}
 use Rattle.promises.specs.NewInfo.{Input, Typed, rulesFor, infoFor, writeNumbers}
 use Rattle.promises.specs.EveryCall.{hashNumbers, blockNumbers, fileNumbers}
@@ -45,13 +46,18 @@ one-of-two n m (inr (inr e)) b f g = absurd e
 
 -- ---- of the entries
 
+-- two that answer by one list of rules, with no size, and give the same where no rule is broken
+one-ruled : {A : Type 0} (rs : List Rule) (numbers : List ℕ) (always value : A) (n m : ℕ) (x y : A) → Answers rs n → Answers rs m
+    → Concludes numbers always n 0 x → Concludes numbers always m 0 y → (AllHold rs → x ≡ value) → (AllHold rs → y ≡ value) → (n ≡ m) × (x ≡ y)
+one-ruled rs numbers always value n m x y a b c d f g =
+    let e : n ≡ m = one-answer rs n m a b in
+    (e, one-given numbers always n m 0 0 x y c d e (λ z. let h = a .none .0 z in f h ∙ sym (g h)))
+
 pub one-hashing : (message : List ℕ) (h : Hashed) → Hashing message h → h ≡ hashed message
 one-hashing m h k =
     let d = hashing m in
-    let a : h .answer ≡ hashed m .answer = one-answer (hashRules m) _ _ (k .answers) (d .answers) in
-    let b : h .bytes ≡ hashed m .bytes =
-    one-given _ _ _ _ 0 0 _ _ (k .ends) (d .ends) a (λ z. let r = k .answers .none .0 z in k .published r ∙ sym (d .published r)) in
-    λ i. record { answer = a i; bytes = b i }
+    let e = one-ruled (hashRules m) _ _ (sha1 m) _ _ _ _ (k .answers) (d .answers) (k .ends) (d .ends) (k .published) (d .published) in
+    λ i. record { answer = e .0 i; bytes = e .1 i }
 
 -- of a block, by either direction: the key's length decides the answer
 one-enciphering : (cipher : (key block : List ℕ) → List ℕ) (key block : List ℕ) (r s : Aes.Reply) → Enciphering cipher key block r → Enciphering cipher key block s → r ≡ s
@@ -70,10 +76,8 @@ module _ (key block : List ℕ) (r : Aes.Reply) where
 pub one-parsing : (info : List ℕ) (p : Parsed) → Parsing info p → p ≡ parsed info
 one-parsing info p k =
     let d = parsing info in
-    let a : p .answer ≡ parsed info .answer = one-answer (infoRules info) _ _ (k .answers) (d .answers) in
-    let f : p .fields ≡ parsed info .fields =
-    one-given _ _ _ _ 0 0 _ _ (k .ends) (d .ends) a (λ z. let r = k .answers .none .0 z in k .published r ∙ sym (d .published r)) in
-    λ i. record { answer = a i; fields = f i }
+    let e = one-ruled (infoRules info) _ _ (described info) _ _ _ _ (k .answers) (d .answers) (k .ends) (d .ends) (k .published) (d .published) in
+    λ i. record { answer = e .0 i; fields = e .1 i }
 
 pub one-judging : (info password : List ℕ) (n : ℕ) → Judging info password n → n ≡ judged info password
 one-judging info password n k = one-answer (verdictRules info password) _ _ (k .answers) (judging info password .answers)
