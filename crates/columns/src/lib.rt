@@ -39,11 +39,11 @@ pub fn mixed(w: &[u8; 240], shares: &[u32; 256]) -> [u8; 240]
     ensures { λ r. ⌜ r ≡ Cipher.invMixColumns (now (w .entry)) ⌝ }
 {
     let mut m = [0u8; 240];
-    let mut n = 0;
-    while n < 15 {
-        let k = inv_mix_columns(shares, rounds::key(w, n));
-        octets::copy(&k, 0, 16, &mut m, 16 * n);
-        n += 1;
+    let mut i = 0;
+    while i < 15 {
+        let k = inv_mix_columns(shares, rounds::key(w, i));
+        octets::copy(&k, 0, 16, &mut m, 16 * i);
+        i += 1;
     }
     m
 }

@@ -66,10 +66,13 @@ pub rounds-none : (key : ℕ → List ℕ) (s : List ℕ) → rounds key 0 s ≡
 unfolding rounds
 rounds-none key s = refl
 
-pub rounds-more : (key : ℕ → List ℕ) (n : ℕ) (s : List ℕ) → 0 < n → rounds key n s ≡ round key n (rounds key (n - 1) s)
+pub rounds-more : (key : ℕ → List ℕ) (n : ℕ) (s t u : List ℕ) → 0 < n → t ≡ rounds key (n - 1) s → u ≡ round key n t → u ≡ rounds key (n + 1 - 1) s
 unfolding rounds
-rounds-more key zero s h = absurd (omega arith)
-rounds-more key (suc n) s h = let e : suc n - 1 ≡ n = omega arith in rw e
+rounds-more key zero s t u h e g = absurd (omega arith)
+rounds-more key (suc n) s t u h e g =
+    let before : suc n - 1 ≡ n = omega arith in
+    let after : suc n + 1 - 1 ≡ suc n = omega arith in
+    rw after (g ∙ ap (round key (suc n)) (rw before at e))
 
 pub invRounds-less : (key : ℕ → List ℕ) (n : ℕ) (s : List ℕ) → 0 < n → invRounds key n s ≡ invRounds key (n - 1) (invRound key n s)
 unfolding invRounds

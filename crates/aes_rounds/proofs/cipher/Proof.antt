@@ -1,6 +1,6 @@
 -- After the turn of round n the state has gone through rounds 1 to n.
-use mathlib.Core.Path.{_≡_, refl, sym, ap, _∙_}
-use Prim.Native.Nat.{_+_, _-_, _<_, _≤_}
+use mathlib.Core.Path.{_≡_, refl, ap, _∙_}
+use Prim.Native.Nat.{_-_, _<_, _≤_}
 use native.Mathlib.Omega.{arith}
 use borrow.Author.Needs.{needs}
 use lib.ListN.{length}
@@ -24,8 +24,7 @@ loop-again : tie.Need-loop-again Inv-loop μ-loop
 loop-again c =
     let at = c .before .before .loop in
     let key = Cipher.roundKey (c .before .before .before .before .args .w .now) in
-    let e : at .n + 1 - 1 ≡ at .n = omega arith in
-    (omega arith, omega arith, rw e (c .round .ensures ∙ ap (Cipher.round key (at .n)) (at .inv .2) ∙ sym (rounds-more key (at .n) _ (at .inv .0))))
+    (omega arith, omega arith, rounds-more key (at .n) _ _ _ (at .inv .0) (at .inv .2) (c .round .ensures))
 
 sub-bytes-requires : tie.Need-sub-bytes-requires Inv-loop μ-loop
 sub-bytes-requires c κs = ap length (c .before .before .before .pre .3) ∙ length-sbox

@@ -1,7 +1,7 @@
 -- After the turn of round n the state has gone through rounds 1 to n.
 use mathlib.Core.Path.{_≡_, sym, ap, _∙_}
 use mathlib.Core.List.{map}
-use Prim.Native.Nat.{_+_, _-_, _<_, _≤_}
+use Prim.Native.Nat.{_-_, _<_, _≤_}
 use native.Mathlib.Omega.{arith}
 use borrow.Author.Needs.{needs}
 use lib.ListN.{length}
@@ -30,12 +30,11 @@ loop-again c =
     let at = c .before .before .before .loop in
     let st = c .before .before .before .before .before in
     let key = Cipher.roundKey (st .args .w .now) in
-    let e : at .n + 1 - 1 ≡ at .n = omega arith in
     let turn : c .round .result ≡ Cipher.round key (at .n) (at .s) =
     c .round .ensures 2 3 1 1 (look sbox) (st .pre .1 .1)
     ∙ ap (λ u. Cipher.addRoundKey (Cipher.columns (Cipher.row 2 3 1 1) (map (look sbox) u)) (key (at .n))) (c .before .shift-rows .ensures)
     ∙ by-round key (at .n) (at .s) (at .inv .3) in
-    (rw e (turn ∙ ap (Cipher.round key (at .n)) (at .inv .0) ∙ sym (rounds-more key (at .n) _ (at .inv .1))), omega arith, omega arith, search needs)
+    (rounds-more key (at .n) _ _ _ (at .inv .1) (at .inv .0) turn, omega arith, omega arith, search needs)
 
 sub-bytes-requires : tie.Need-sub-bytes-requires Inv-loop μ-loop
 sub-bytes-requires c κs = ap length (c .before .before .before .pre .1 .0) ∙ length-sbox

@@ -10,10 +10,10 @@ use Rattle.columns.proofs.mixed.Statement.{statement}
 use Rattle.columns.proofs.mixed.Tie as tie
 
 abbrev Inv-loop : tie.InvT-loop
-Inv-loop w shares m₀ n₀ m n = (n ≤ 15) × (length m ≡ 240) × ((long : length w ≡ 240) → Done w long n m)
+Inv-loop w shares m₀ i₀ m i = (i ≤ 15) × (length m ≡ 240) × ((long : length w ≡ 240) → Done w long i m)
 
 abbrev μ-loop : tie.MeasureT-loop
-μ-loop w shares m₀ n₀ m n = 15 - n
+μ-loop w shares m₀ i₀ m i = 15 - i
 
 loop-holds : tie.Need-loop-holds Inv-loop μ-loop
 loop-holds c = (omega arith, search needs, λ long. done-none (c .args .w .now) long)
@@ -26,14 +26,14 @@ loop-again c =
     let w = k .before .before .before .before .args .w .now in (
       omega arith,
       search needs,
-      λ long. done-more w long (l .n) (l .m) _ _ (omega arith) (l .inv .2 long) (k .inv-mix-columns .ensures ∙ ap invMixColumns (k .before .key .ensures)) (p .ensures),
+      λ long. done-more w long (l .i) (l .m) _ _ (omega arith) (l .inv .2 long) (k .inv-mix-columns .ensures ∙ ap invMixColumns (k .before .key .ensures)) (p .ensures),
     )
 
 returns : tie.Need-returns Inv-loop μ-loop
 returns c =
     let l = c .before .loop in
     let st = c .before .before in
-    done-all (st .args .w .now) (st .pre .0) (l .n) (l .m) (omega arith) (l .inv .2 (st .pre .0))
+    done-all (st .args .w .now) (st .pre .0) (l .i) (l .m) (omega arith) (l .inv .2 (st .pre .0))
 
 pub mixed-spec : {M : Type 1} → statement M
 mixed-spec =
