@@ -11,8 +11,8 @@
 //         let opened = aes::decrypt(&key, sealed.block);
 //     }
 //
-// A stream expands its key once; `columns` has the ciphers for it. `aes_rounds::cipher` and `aes_rounds::inv_cipher` do a lone block's
-// work: the one doubles, the other lays the shares of `products`, and neither mixes a key.
+// A stream expands its key once; `aes_stream` has the ciphers for it. `aes_rounds::cipher` and `aes_rounds::inv_cipher` do a lone
+// block's work: the one doubles, the other lays the shares of `products`, and neither mixes a key.
 ghost use mathlib.Core.Path.{_≡_};
 ghost use Rattle.aes.specs.Aes as Aes;
 

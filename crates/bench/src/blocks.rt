@@ -4,7 +4,7 @@ ghost use Prim.Native.Nat.{_+_, _<_, _≤_};
 ghost use lib.ListN.{length};
 ghost use Rattle.fips197.specs.Tables.{sbox, invSbox};
 ghost use Rattle.fips197.specs.Cipher.{invMixColumns};
-ghost use Rattle.columns.specs.Columns.{Forward, Inverse};
+ghost use Rattle.aes_stream.specs.Words.{Forward, Inverse};
 
 // The block at `at`.
 fn block(s: &[u8], at: usize) -> [u8; 16]
@@ -28,7 +28,7 @@ pub fn encrypt(w: &[u8; 240], rounds: usize, table: &[u8; 256], words: &[u32; 25
     let n = s.len() / 16;
     let mut i = 0;
     while i < n {
-        let b = columns::cipher(w, rounds, table, words, block(s, 16 * i));
+        let b = aes_stream::cipher(w, rounds, table, words, block(s, 16 * i));
         put(s, 16 * i, b);
         i += 1;
     }
@@ -48,7 +48,7 @@ pub fn decrypt(
     let n = s.len() / 16;
     let mut i = 0;
     while i < n {
-        let b = columns::inv_cipher(w, mixed, rounds, table, words, block(s, 16 * i));
+        let b = aes_stream::inv_cipher(w, mixed, rounds, table, words, block(s, 16 * i));
         put(s, 16 * i, b);
         i += 1;
     }

@@ -22,7 +22,7 @@ pub extern "C" fn bench_encrypt(key: &[u8], buf: &mut [u8]) -> u64 {
     }
     let w = e.bytes;
     let table = aes::tables::SBOX;
-    let words = columns::forward(&table);
+    let words = aes_stream::forward(&table);
     blocks::encrypt(&w, rounds, &table, &words, buf);
     0
 }
@@ -41,8 +41,8 @@ pub extern "C" fn bench_decrypt(key: &[u8], buf: &mut [u8]) -> u64 {
     let w = e.bytes;
     let table = aes::tables::INV_SBOX;
     let shares = products::shares();
-    let words = columns::inverse(&table, &shares);
-    let mixed = columns::mixed(&w, &shares);
+    let words = aes_stream::inverse(&table, &shares);
+    let mixed = aes_stream::mixed(&w, &shares);
     blocks::decrypt(&w, &mixed, rounds, &table, &words, buf);
     0
 }

@@ -9,7 +9,7 @@ ghost use lib.ListN.{length, take, drop};
 ghost use lib.Seq.{paste};
 ghost use Rattle.fips197.specs.Tables.{sbox, invSbox};
 ghost use Rattle.fips197.specs.Cipher.{invMixColumns, roundKey, cipher, invCipher};
-ghost use Rattle.columns.specs.Columns.{Forward, Inverse};
+ghost use Rattle.aes_stream.specs.Words.{Forward, Inverse};
 ghost use Rattle.blocks.specs.Blocks.{ecb, encrypting, decrypting};
 use aes::Expanded;
 use aes::tables;
@@ -69,7 +69,7 @@ fn decrypt_with(
     while i < size {
         let n = part(size - i);
         let sealed = block(src, i);
-        let plain = columns::inv_cipher(w, mixed, rounds, table, words, sealed);
+        let plain = aes_stream::inv_cipher(w, mixed, rounds, table, words, sealed);
         octets::copy(&plain, 0, n, out, i);
         i += n;
     }
@@ -84,8 +84,8 @@ pub fn decrypt(key: Expanded, src: &[u8], size: usize, out: &mut [u8])
     let w = key.bytes;
     let table = tables::INV_SBOX;
     let shares = products::shares();
-    let words = columns::inverse(&table, &shares);
-    let mixed = columns::mixed(&w, &shares);
+    let words = aes_stream::inverse(&table, &shares);
+    let mixed = aes_stream::mixed(&w, &shares);
     decrypt_with(&w, &mixed, key.rounds, &table, &words, src, size, out);
 }
 
@@ -109,7 +109,7 @@ fn encrypt_with(
     let mut i = 0;
     while i < size {
         let plain = filled_block(contents, filling, i);
-        let sealed = columns::cipher(w, rounds, table, words, plain);
+        let sealed = aes_stream::cipher(w, rounds, table, words, plain);
         octets::copy(&sealed, 0, 16, out, at + i);
         i += 16;
     }
@@ -130,7 +130,7 @@ pub fn encrypt(
 {
     let w = key.bytes;
     let table = tables::SBOX;
-    let words = columns::forward(&table);
+    let words = aes_stream::forward(&table);
     encrypt_with(
         &w,
         key.rounds,

@@ -7,8 +7,8 @@ use Rattle.fips197.specs.Field.{xor}
 use Rattle.fips197.specs.Products.{share, Laid}
 use Rattle.fips197.proofs.Steps.{Tabulated, filled-none, filled-more, filled-all}
 use Rattle.fips197.proofs.Shares.{laid-by, mix-share}
-use Rattle.columns.proofs.words.shares.Statement.{statement}
-use Rattle.columns.proofs.words.shares.Tie as tie
+use Rattle.aes_stream.proofs.words.shares.Statement.{statement}
+use Rattle.aes_stream.proofs.words.shares.Tie as tie
 
 abbrev Inv-loop : tie.InvT-loop
 Inv-loop words₀ i₀ words i = Tabulated 256 (share 2 3 1 1) i words

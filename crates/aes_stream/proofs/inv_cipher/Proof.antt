@@ -10,8 +10,8 @@ use Rattle.fips197.specs.Cipher as Cipher
 use Rattle.fips197.proofs.Entries.{length-invSbox}
 use Rattle.fips197.proofs.Steps.{invRounds-less}
 use Rattle.fips197.proofs.Equivalent.{by-invRound, invCipher-last}
-use Rattle.columns.proofs.inv_cipher.Statement.{statement}
-use Rattle.columns.proofs.inv_cipher.Tie as tie
+use Rattle.aes_stream.proofs.inv_cipher.Statement.{statement}
+use Rattle.aes_stream.proofs.inv_cipher.Tie as tie
 
 abbrev Inv-loop : tie.InvT-loop
 Inv-loop w mixed rounds table words s₀ n₀ s n = (n < rounds) × (Cipher.invRounds (Cipher.roundKey w) n s ≡ Cipher.invRounds (Cipher.roundKey w) (rounds - 1) s₀)

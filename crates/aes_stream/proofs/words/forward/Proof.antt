@@ -6,8 +6,8 @@ use Rattle.fips197.specs.Tables.{look}
 use Rattle.fips197.specs.Products.{Laid}
 use Rattle.fips197.proofs.Entries.{length-sbox, sbox-bytes}
 use borrow.Author.Needs.{needs}
-use Rattle.columns.proofs.words.forward.Statement.{statement}
-use Rattle.columns.proofs.words.forward.Tie as tie
+use Rattle.aes_stream.proofs.words.forward.Statement.{statement}
+use Rattle.aes_stream.proofs.words.forward.Tie as tie
 
 substituted-requires : tie.Need-substituted-requires
 substituted-requires c κs = (ap length (c .before .before .pre) ∙ length-sbox, c .before .shares .ensures .long)

@@ -5,8 +5,8 @@ use Rattle.octets.specs.Octets.{Bytes}
 use Rattle.fips197.specs.Tables.{look}
 use Rattle.fips197.specs.Products.{Laid}
 use Rattle.fips197.proofs.Entries.{length-invSbox, invSbox-bytes}
-use Rattle.columns.proofs.words.inverse.Statement.{statement}
-use Rattle.columns.proofs.words.inverse.Tie as tie
+use Rattle.aes_stream.proofs.words.inverse.Statement.{statement}
+use Rattle.aes_stream.proofs.words.inverse.Tie as tie
 
 substituted-requires : tie.Need-substituted-requires
 substituted-requires c κs = (ap length (c .pre .0) ∙ length-invSbox, c .pre .1 .long)

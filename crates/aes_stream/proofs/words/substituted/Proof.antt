@@ -6,9 +6,9 @@ use borrow.Author.Needs.{needs}
 use Rattle.fips197.specs.Tables.{look}
 use Rattle.fips197.specs.Products.{Laid}
 use Rattle.fips197.proofs.Steps.{Tabulated, filled-none, filled-more, filled-all}
-use Rattle.columns.proofs.Tables.{at, by-table}
-use Rattle.columns.proofs.words.substituted.Statement.{statement}
-use Rattle.columns.proofs.words.substituted.Tie as tie
+use Rattle.aes_stream.proofs.Tables.{at, by-table}
+use Rattle.aes_stream.proofs.words.substituted.Statement.{statement}
+use Rattle.aes_stream.proofs.words.substituted.Tie as tie
 
 abbrev Inv-loop : tie.InvT-loop
 Inv-loop table shares words₀ i₀ words i = Tabulated 256 (at table shares) i words

@@ -6,8 +6,8 @@
 // (5.3.5, the equivalent inverse cipher).
 //
 //     let table = aes::tables::SBOX;
-//     let words = columns::forward(&table);
-//     let sealed = columns::cipher(&w, rounds, &table, &words, block);
+//     let words = aes_stream::forward(&table);
+//     let sealed = aes_stream::cipher(&w, rounds, &table, &words, block);
 //
 // Lay the words and mix the keys once a stream, and lend them: for a lone block that costs more than it saves, and `aes_rounds` has the
 // ciphers that do without.
@@ -19,7 +19,7 @@ ghost use lib.ListN.{length};
 ghost use Rattle.fips197.specs.Tables as Tables;
 ghost use Rattle.fips197.specs.Cipher as Cipher;
 ghost use Rattle.fips197.specs.Products as Products;
-ghost use Rattle.columns.specs.Columns as Columns;
+ghost use Rattle.aes_stream.specs.Words as Words;
 
 mod rounds;
 mod words;
@@ -57,7 +57,7 @@ pub fn cipher(
     block: [u8; 16],
 ) -> [u8; 16]
     requires { ⌜ (0 < rounds) × (rounds ≤ 14) × (length (now w) ≡ 240) ⌝ }
-    requires { ⌜ (now table ≡ Tables.sbox) × Columns.Forward (now words) ⌝ }
+    requires { ⌜ (now table ≡ Tables.sbox) × Words.Forward (now words) ⌝ }
     ensures { λ r. ⌜ r ≡ Cipher.cipher (Cipher.roundKey (now (w .entry))) rounds block ⌝ }
 {
     let mut s = add_round_key(w, 0, block);
@@ -80,7 +80,7 @@ pub fn inv_cipher(
     block: [u8; 16],
 ) -> [u8; 16]
     requires { ⌜ (0 < rounds) × (rounds ≤ 14) × (length (now w) ≡ 240) × (length (now mixed) ≡ 240) ⌝ }
-    requires { ⌜ (now mixed ≡ Cipher.invMixColumns (now w)) × (now table ≡ Tables.invSbox) × Columns.Inverse (now words) ⌝ }
+    requires { ⌜ (now mixed ≡ Cipher.invMixColumns (now w)) × (now table ≡ Tables.invSbox) × Words.Inverse (now words) ⌝ }
     ensures { λ r. ⌜ r ≡ Cipher.invCipher (Cipher.roundKey (now (w .entry))) rounds block ⌝ }
 {
     let mut s = add_round_key(w, rounds, block);

@@ -13,8 +13,8 @@ use Rattle.fips197.proofs.Sums.{comm}
 use Rattle.fips197.proofs.Columns.{length-columns}
 use Rattle.fips197.proofs.Words.{summed}
 use Rattle.fips197.proofs.Shares.{looked-up}
-use Rattle.columns.proofs.rounds.column.Statement.{statement}
-use Rattle.columns.proofs.rounds.column.Tie as tie
+use Rattle.aes_stream.proofs.rounds.column.Statement.{statement}
+use Rattle.aes_stream.proofs.rounds.column.Tie as tie
 
 returns : tie.Need-returns
 unfolding xor leAt

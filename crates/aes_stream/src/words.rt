@@ -5,7 +5,7 @@ ghost use lib.ListN.{length};
 ghost use Rattle.octets.specs.Octets.{Bytes};
 ghost use Rattle.fips197.specs.Tables as Tables;
 ghost use Rattle.fips197.specs.Products.{Laid, Shares};
-ghost use Rattle.columns.specs.Columns as Columns;
+ghost use Rattle.aes_stream.specs.Words as Words;
 use products::field::double;
 use products::packed::word;
 use products::share;
@@ -42,7 +42,7 @@ fn substituted(table: &[u8; 256], shares: &[u32; 256]) -> [u32; 256]
 // The words of the cipher, from the substitution table.
 pub fn forward(table: &[u8; 256]) -> [u32; 256]
     requires { ⌜ now table ≡ Tables.sbox ⌝ }
-    ensures { λ r. ⌜ Columns.Forward r ⌝ }
+    ensures { λ r. ⌜ Words.Forward r ⌝ }
 {
     let mix = shares();
     substituted(table, &mix)
@@ -51,7 +51,7 @@ pub fn forward(table: &[u8; 256]) -> [u32; 256]
 // The words of the inverse cipher, from the inverse table and the shares of InvMixColumns.
 pub fn inverse(table: &[u8; 256], shares: &[u32; 256]) -> [u32; 256]
     requires { ⌜ (now table ≡ Tables.invSbox) × Shares (now shares) ⌝ }
-    ensures { λ r. ⌜ Columns.Inverse r ⌝ }
+    ensures { λ r. ⌜ Words.Inverse r ⌝ }
 {
     substituted(table, shares)
 }

@@ -10,8 +10,8 @@ use Rattle.fips197.specs.Cipher as Cipher
 use Rattle.fips197.proofs.Entries.{length-sbox}
 use Rattle.fips197.proofs.Steps.{rounds-none, rounds-more}
 use Rattle.fips197.proofs.Equivalent.{by-round, cipher-last}
-use Rattle.columns.proofs.cipher.Statement.{statement}
-use Rattle.columns.proofs.cipher.Tie as tie
+use Rattle.aes_stream.proofs.cipher.Statement.{statement}
+use Rattle.aes_stream.proofs.cipher.Tie as tie
 
 abbrev Inv-loop : tie.InvT-loop
 Inv-loop w rounds table words s₀ n₀ s n = (s ≡ Cipher.rounds (Cipher.roundKey w) (n - 1) s₀) × (0 < n) × (n ≤ rounds) × (length s ≡ 16)

@@ -5,9 +5,9 @@ use native.Mathlib.Omega.{arith}
 use borrow.Author.Needs.{needs}
 use lib.ListN.{length}
 use Rattle.fips197.specs.Cipher.{invMixColumns}
-use Rattle.columns.proofs.Keys.{Done, done-none, done-more, done-all}
-use Rattle.columns.proofs.mixed.Statement.{statement}
-use Rattle.columns.proofs.mixed.Tie as tie
+use Rattle.aes_stream.proofs.Keys.{Done, done-none, done-more, done-all}
+use Rattle.aes_stream.proofs.mixed.Statement.{statement}
+use Rattle.aes_stream.proofs.mixed.Tie as tie
 
 abbrev Inv-loop : tie.InvT-loop
 Inv-loop w shares m₀ i₀ m i = (i ≤ 15) × (length m ≡ 240) × ((long : length w ≡ 240) → Done w long i m)

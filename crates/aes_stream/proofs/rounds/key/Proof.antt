@@ -5,8 +5,8 @@ use borrow.Author.Needs.{needs}
 use lib.ListN.{replicate, drop}
 use Rattle.octets.proofs.Parts.{paste-whole}
 use Rattle.fips197.proofs.Equivalent.{roundKey-is}
-use Rattle.columns.proofs.rounds.key.Statement.{statement}
-use Rattle.columns.proofs.rounds.key.Tie as tie
+use Rattle.aes_stream.proofs.rounds.key.Statement.{statement}
+use Rattle.aes_stream.proofs.rounds.key.Tie as tie
 
 returns : tie.Need-returns
 returns c =

@@ -4,8 +4,8 @@ use native.Mathlib.Omega.{arith}
 use borrow.Author.Needs.{needs}
 use lib.ListN.{length}
 use Rattle.fips197.proofs.Equivalent.{by-keyed-columns}
-use Rattle.columns.proofs.rounds.round.Statement.{statement}
-use Rattle.columns.proofs.rounds.round.Tie as tie
+use Rattle.aes_stream.proofs.rounds.round.Statement.{statement}
+use Rattle.aes_stream.proofs.rounds.round.Tie as tie
 
 returns : tie.Need-returns
 returns c =
