@@ -1,6 +1,6 @@
-// AES: the last round keys of FIPS 197 appendix A, the blocks of appendix C both ways, and keys of other lengths.
-ghost use Prim.Native.Nat.{_≤_};
-ghost use lib.ListN.{length};
+// AES, a row to a vector: the keys and blocks of FIPS 197 with what it gives for them, and keys of other lengths, which are refused. A
+// line ends with what was expected where something else came out.
+use samples::front;
 
 // A key's length, and what comes after it.
 fn key(n: usize, what: &[u8]) {
@@ -9,187 +9,121 @@ fn key(n: usize, what: &[u8]) {
     lines::text(what);
 }
 
-// The number of rounds and the last round key of an expanded key.
-fn last_round_key(k: &[u8]) {
-    let e = aes::expand(k);
-    let rounds = e.rounds;
-    let bytes = e.bytes;
-    key(k.len(), b": rounds ");
-    lines::number(rounds as u64);
-    lines::text(b" last round key ");
-    if rounds <= 14 {
-        lines::part(&bytes, 16 * rounds, 16 * rounds + 16);
+// The bytes that came out, and those that should have, where they are others.
+fn ended(got: &[u8], expected: &[u8]) {
+    lines::hex(got);
+    if !check::same(got, expected) {
+        lines::text(b", and not ");
+        lines::hex(expected);
     }
     lines::text(b"\n");
 }
 
+// Round key n of an expanded key, or all of it where there is no such round.
+fn round_key(w: &[u8], n: usize) -> &[u8] {
+    if n <= 14 && 16 * n + 16 <= w.len() {
+        &w[16 * n..16 * n + 16]
+    } else {
+        w
+    }
+}
+
+// The number of rounds and the last round key of an expanded key.
+fn expansion(k: &[u8], last: &[u8; 16]) {
+    let e = aes::expand(k);
+    let bytes = e.bytes;
+    key(k.len(), b": rounds ");
+    lines::number(e.rounds as u64);
+    lines::text(b" last round key ");
+    ended(round_key(&bytes, e.rounds), last);
+}
+
 // An answer with its block.
-fn reply(r: aes::Reply) {
+fn reply(r: aes::Reply, expected: &[u8; 16]) {
     lines::number(r.answer as u64);
     lines::text(b" ");
     let block = r.block;
-    lines::hex(&block);
-    lines::text(b"\n");
+    ended(&block, expected);
 }
 
-// Appendix C's block under the first n bytes of its key, and back.
-fn both_ways(k: &[u8], n: usize)
-    requires { ⌜ n ≤ length (now k) ⌝ }
-{
-    let block = [
-        0x00,
-        0x11,
-        0x22,
-        0x33,
-        0x44,
-        0x55,
-        0x66,
-        0x77,
-        0x88,
-        0x99,
-        0xaa,
-        0xbb,
-        0xcc,
-        0xdd,
-        0xee,
-        0xff,
-    ];
-    let there = aes::encrypt(&k[..n], block);
-    key(n, b": encrypt answer ");
-    reply(there);
-    let there_block = there.block;
-    let back = aes::decrypt(&k[..n], there_block);
-    key(n, b": decrypt answer ");
-    reply(back);
+fn encrypted(k: &[u8], block: [u8; 16], expected: &[u8; 16]) {
+    key(k.len(), b": encrypt answer ");
+    reply(aes::encrypt(k, block), expected);
+}
+
+fn decrypted(k: &[u8], block: [u8; 16], expected: &[u8; 16]) {
+    key(k.len(), b": decrypt answer ");
+    reply(aes::decrypt(k, block), expected);
+}
+
+fn both_ways(k: &[u8], plain: [u8; 16], sealed: [u8; 16]) {
+    encrypted(k, plain, &sealed);
+    decrypted(k, sealed, &plain);
+}
+
+// Appendix A: a key and the last round key of its expansion.
+fn expansions() {
+    // A.1
+    expansion(
+        b"\x2b\x7e\x15\x16\x28\xae\xd2\xa6\xab\xf7\x15\x88\x09\xcf\x4f\x3c",
+        b"\xd0\x14\xf9\xa8\xc9\xee\x25\x89\xe1\x3f\x0c\xc8\xb6\x63\x0c\xa6",
+    );
+    // A.2
+    expansion(
+        b"\x8e\x73\xb0\xf7\xda\x0e\x64\x52\xc8\x10\xf3\x2b\x80\x90\x79\xe5\x62\xf8\xea\xd2\x52\x2c\x6b\x7b",
+        b"\xe9\x8b\xa0\x6f\x44\x8c\x77\x3c\x8e\xcc\x72\x04\x01\x00\x22\x02",
+    );
+    // A.3
+    expansion(
+        b"\x60\x3d\xeb\x10\x15\xca\x71\xbe\x2b\x73\xae\xf0\x85\x7d\x77\x81\x1f\x35\x2c\x07\x3b\x61\x08\xd7\x2d\x98\x10\xa3\x09\x14\xdf\xf4",
+        b"\xfe\x48\x90\xd1\xe6\x18\x8d\x0b\x04\x6d\xf3\x44\x70\x6c\x63\x1e",
+    );
+}
+
+// Bytes that count up from 0: the keys of appendix C, and a byte more than the longest.
+fn counted() -> [u8; 33] {
+    *b"\x00\x01\x02\x03\x04\x05\x06\x07\x08\x09\x0a\x0b\x0c\x0d\x0e\x0f\x10\x11\x12\x13\x14\x15\x16\x17\x18\x19\x1a\x1b\x1c\x1d\x1e\x1f\x20"
+}
+
+// Appendix C: one block under a key of each length.
+fn blocks() {
+    let keys = counted();
+    let plain = samples::stepping();
+    // C.1
+    both_ways(
+        front(&keys, 16),
+        plain,
+        *b"\x69\xc4\xe0\xd8\x6a\x7b\x04\x30\xd8\xcd\xb7\x80\x70\xb4\xc5\x5a",
+    );
+    // C.2
+    both_ways(
+        front(&keys, 24),
+        plain,
+        *b"\xdd\xa9\x7c\xa4\x86\x4c\xdf\xe0\x6e\xaf\x70\xa0\xec\x0d\x71\x91",
+    );
+    // C.3
+    both_ways(
+        front(&keys, 32),
+        plain,
+        *b"\x8e\xa2\xb7\xca\x51\x67\x45\xbf\xea\xfc\x49\x90\x4b\x49\x60\x89",
+    );
+}
+
+// No key of AES has so many bytes: zeros, with reply 8 of 01.
+fn refused(n: usize) {
+    let keys = counted();
+    let k = front(&keys, n);
+    encrypted(k, samples::stepping(), &[0; 16]);
+    decrypted(k, samples::stepping(), &[0; 16]);
 }
 
 pub fn all() {
-    last_round_key(
-        &[
-            0x2b,
-            0x7e,
-            0x15,
-            0x16,
-            0x28,
-            0xae,
-            0xd2,
-            0xa6,
-            0xab,
-            0xf7,
-            0x15,
-            0x88,
-            0x09,
-            0xcf,
-            0x4f,
-            0x3c,
-        ],
-    );
-    last_round_key(
-        &[
-            0x8e,
-            0x73,
-            0xb0,
-            0xf7,
-            0xda,
-            0x0e,
-            0x64,
-            0x52,
-            0xc8,
-            0x10,
-            0xf3,
-            0x2b,
-            0x80,
-            0x90,
-            0x79,
-            0xe5,
-            0x62,
-            0xf8,
-            0xea,
-            0xd2,
-            0x52,
-            0x2c,
-            0x6b,
-            0x7b,
-        ],
-    );
-    last_round_key(
-        &[
-            0x60,
-            0x3d,
-            0xeb,
-            0x10,
-            0x15,
-            0xca,
-            0x71,
-            0xbe,
-            0x2b,
-            0x73,
-            0xae,
-            0xf0,
-            0x85,
-            0x7d,
-            0x77,
-            0x81,
-            0x1f,
-            0x35,
-            0x2c,
-            0x07,
-            0x3b,
-            0x61,
-            0x08,
-            0xd7,
-            0x2d,
-            0x98,
-            0x10,
-            0xa3,
-            0x09,
-            0x14,
-            0xdf,
-            0xf4,
-        ],
-    );
-    let rising = [
-        0x00,
-        0x01,
-        0x02,
-        0x03,
-        0x04,
-        0x05,
-        0x06,
-        0x07,
-        0x08,
-        0x09,
-        0x0a,
-        0x0b,
-        0x0c,
-        0x0d,
-        0x0e,
-        0x0f,
-        0x10,
-        0x11,
-        0x12,
-        0x13,
-        0x14,
-        0x15,
-        0x16,
-        0x17,
-        0x18,
-        0x19,
-        0x1a,
-        0x1b,
-        0x1c,
-        0x1d,
-        0x1e,
-        0x1f,
-        0x20,
-    ];
-    both_ways(&rising, 16);
-    both_ways(&rising, 24);
-    both_ways(&rising, 32);
-    both_ways(&rising, 0);
-    both_ways(&rising, 15);
-    both_ways(&rising, 17);
-    both_ways(&rising, 23);
-    both_ways(&rising, 31);
-    both_ways(&rising, 33);
+    expansions();
+    blocks();
+    refused(0);
+    refused(15);
+    refused(17);
+    refused(23);
+    refused(31);
+    refused(33);
 }
