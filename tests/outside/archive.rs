@@ -52,6 +52,11 @@ pub struct Outcome {
 const OLD: u8 = 0xa5;
 pub const GUARD: usize = 64;
 
+/// A returned number, taken apart.
+pub fn parts(word: u64) -> String {
+    format!("answer {} size {}", word % 65_536, word / 65_536)
+}
+
 /// Sixteen bytes as the two numbers that they cross as.
 fn halves(bytes: &[u8; 16]) -> (u64, u64) {
     let (low, high) = bytes.split_at(8);
@@ -70,6 +75,11 @@ impl Call {
         }
     }
 
+    /// `out` between its guards, before a call.
+    fn memory(&self) -> Vec<u8> {
+        vec![OLD; GUARD + self.room() + GUARD]
+    }
+
     /// Whether the returned number has a size.
     fn sized(&self) -> bool {
         matches!(self, Call::Open { .. } | Call::Seal { .. } | Call::Write(_))
@@ -85,7 +95,7 @@ impl Call {
     }
 
     pub fn by_archive(&self) -> Outcome {
-        let mut memory = vec![OLD; GUARD + self.room() + GUARD];
+        let mut memory = self.memory();
         let out = memory[GUARD..].as_mut_ptr();
         // SAFETY: each pointer is of a vector with its count beside it, and `out` has the room that is told and overlaps none.
         let word = unsafe {
@@ -123,16 +133,15 @@ impl Call {
         if got.word == if self.sized() { 65_536 * room as u64 } else { 0 } {
             Ok(got.memory[GUARD..GUARD + room].to_vec())
         } else {
-            Err(format!("answer {} size {}, and not a room of {room} bytes filled", got.word % 65_536, got.word / 65_536))
+            Err(format!("{}, and not a room of {room} bytes filled", parts(got.word)))
         }
     }
 
     pub fn by_second(&self) -> Outcome {
         let written = match self {
-            Call::Sha1 { message } if message.len() > 65_536 => Err(18),
-            Call::Sha1 { message } => Ok(sha1::sha1(message).to_vec()),
-            Call::Encrypt { key, block } => Aes::new(key).map(|aes| aes.encrypt(*block).to_vec()).ok_or(8),
-            Call::Decrypt { key, block } => Aes::new(key).map(|aes| aes.decrypt(*block).to_vec()).ok_or(8),
+            Call::Sha1 { message } => sha1::hashed(message).map(|hash| hash.to_vec()),
+            Call::Encrypt { key, block } => Aes::new(key).map(|aes| aes.encrypt(*block).to_vec()),
+            Call::Decrypt { key, block } => Aes::new(key).map(|aes| aes.decrypt(*block).to_vec()),
             Call::Parse { info } => descriptor::parse(info).map(|d| d.bytes()),
             Call::Verdict { info, password } => key::unlock(info, password).map(|_| vec![]),
             Call::Open { info, password, stream, room } => package::open(info, password, stream, *room),
@@ -144,7 +153,7 @@ impl Call {
                 writer::write_info(w.bits, &w.password, &w.name, w.salt, w.verifier, filling, w.room)
             }
         };
-        let mut memory = vec![OLD; GUARD + self.room() + GUARD];
+        let mut memory = self.memory();
         let word = match written {
             Err(answer) => u64::from(answer),
             Ok(bytes) => {

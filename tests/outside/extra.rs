@@ -1,6 +1,7 @@
 //! The extra block of request 2026-02: packages sealed with each choice and streams of lengths around it, with the answers that no. 15
 //! and no. 16 give, and the two streams of one package.
-use crate::inputs::{Case, Cases, Lock, Random, lock, rooms};
+use crate::inputs::{Cases, Lock, Random, lock, rooms};
+use second::{algorithms::ALGORITHMS, samples::units};
 
 /// Sizes of packages, each with the length of its ciphertext and with the length that it has with an extra block.
 const LENGTHS: [(usize, usize, usize); 12] = [
@@ -41,7 +42,7 @@ impl Cases {
         let (package, filling) = (self.r.bytes(n), self.r.sixteen());
         for (room, answer) in rooms(8 + length) {
             let call = self.locks[size].seal(&package, filling, extra, room);
-            self.list.push(Case { group: "extra block, sealed with each choice", call, answer: Some(answer) });
+            self.known("extra block, sealed with each choice", call, answer);
         }
     }
 
@@ -50,7 +51,7 @@ impl Cases {
         let stream = [&(n as u64).to_le_bytes()[..], &self.r.bytes(length)].concat();
         for (room, answer) in rooms(n) {
             let call = self.locks[size].open(&stream, room);
-            self.list.push(Case { group: "extra block, lengths of streams", call, answer: Some(if allowed { answer } else { 15 }) });
+            self.known("extra block, lengths of streams", call, if allowed { answer } else { 15 });
         }
     }
 }
@@ -62,19 +63,15 @@ fn both(l: &Lock, package: &[u8], filling: [u8; 16], least: usize, most: usize) 
     if with[..8 + least] != without {
         return Err(format!("another stream with the extra block, of {} bytes", package.len()));
     }
-    for stream in [without, with] {
-        if l.open(&stream, package.len()).filled()? != package {
-            return Err(format!("another package than was sealed, of {} bytes", package.len()));
-        }
-    }
-    Ok(())
+    l.opens_to(&without, package)?;
+    l.opens_to(&with, package)
 }
 
 /// A package has two streams where it may have an extra block, and one where it may not.
 pub fn both_streams(seed: u64) -> Result<u64, String> {
     let (mut r, mut calls) = (Random(seed), 0);
-    for size in 0..3 {
-        let l = lock(&mut r, size, "one sheet, two streams".encode_utf16().collect());
+    for algorithm in ALGORITHMS {
+        let l = lock(&mut r, algorithm, units("one sheet, two streams"));
         for (n, least, most) in LENGTHS {
             both(&l, &r.bytes(n), r.sixteen(), least, most)?;
             calls += 4;

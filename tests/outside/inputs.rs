@@ -1,6 +1,13 @@
 //! What the archive is called with: every input that decides a rule, around each limit, and seeded random ones.
 use crate::archive::Call;
-use second::{aes::Aes, key::derive, package::sealed, sha1::sha1};
+use second::{
+    aes::Aes,
+    algorithms::{ALGORITHMS, Algorithm},
+    key::keyed,
+    package::{LIMIT, sealed},
+    samples::units,
+    writer::{encryption_verifier, locked},
+};
 
 /// SplitMix64: the same numbers for the same seed on every machine.
 pub struct Random(pub u64);
@@ -44,6 +51,10 @@ pub struct Lock {
 }
 
 impl Lock {
+    pub fn verdict(&self) -> Call {
+        Call::Verdict { info: self.info.clone(), password: self.password.clone() }
+    }
+
     pub fn open(&self, stream: &[u8], room: usize) -> Call {
         Call::Open { info: self.info.clone(), password: self.password.clone(), stream: stream.to_vec(), room }
     }
@@ -52,31 +63,33 @@ impl Lock {
         let (info, password, package) = (self.info.clone(), self.password.clone(), package.to_vec());
         Call::Seal { info, password, package, filling, extra, room }
     }
+
+    /// That the archive opens a stream to this package.
+    pub fn opens_to(&self, stream: &[u8], package: &[u8]) -> Result<(), String> {
+        if self.open(stream, package.len()).filled()? == package {
+            Ok(())
+        } else {
+            Err(format!("another package than was sealed, of {} bytes", package.len()))
+        }
+    }
 }
 
-const ALGORITHMS: [(u32, u32); 3] = [(0x660e, 128), (0x660f, 192), (0x6610, 256)];
-
-/// EncryptionInfo of that shape: what is not judged is random.
-fn info_of(r: &mut Random, major: u16, header: u32, extra: u32, alg: (u32, u32), salt: &[u8], verifier: &[u8], hash: &[u8]) -> Vec<u8> {
+/// EncryptionInfo of that shape, with EncryptionVerifier at its end: what is not judged is random.
+fn info_of(r: &mut Random, major: u16, header: u32, extra: u32, algorithm: Algorithm, verifier: &[u8]) -> Vec<u8> {
+    let Algorithm { id, bits, .. } = algorithm;
     let mut info = [major.to_le_bytes(), 2u16.to_le_bytes()].concat();
-    for number in [r.next() as u32, header, r.next() as u32, extra, alg.0, 0x8004, alg.1, r.next() as u32, r.next() as u32, r.next() as u32]
-    {
+    for number in [r.next() as u32, header, r.next() as u32, extra, id, 0x8004, bits, r.next() as u32, r.next() as u32, r.next() as u32] {
         info.extend(number.to_le_bytes());
     }
-    info.extend(r.bytes(header as usize - 32));
-    [&info[..], &16u32.to_le_bytes(), salt, verifier, &20u32.to_le_bytes(), hash].concat()
+    [info, r.bytes(header as usize - 32), verifier.to_vec()].concat()
 }
 
-pub fn lock(r: &mut Random, size: usize, password: Vec<u16>) -> Lock {
-    let alg = ALGORITHMS[size];
-    let salt = r.bytes(16);
-    let aes = Aes::new(&derive(&salt, &password).key[..alg.1 as usize / 8]).unwrap();
-    let verifier = r.sixteen();
-    let stored = [&sha1(&verifier)[..], &r.bytes(12)].concat();
-    let hash: Vec<u8> = stored.chunks(16).flat_map(|c| aes.encrypt(c.try_into().unwrap())).collect();
+pub fn lock(r: &mut Random, algorithm: Algorithm, password: Vec<u16>) -> Lock {
+    let salt = r.sixteen();
+    let aes = keyed(algorithm, &salt, &password);
+    let verifier = locked(&aes, salt, r.sixteen(), *r.bytes(12).first_chunk().unwrap());
     let major = 2 + r.below(3) as u16;
-    let info = info_of(r, major, 140, 0, alg, &salt, &aes.encrypt(verifier), &hash);
-    Lock { info, password, aes }
+    Lock { info: info_of(r, major, 140, 0, algorithm, &verifier), password, aes }
 }
 
 /// A call, with the answer where it is known without the second implementation.
@@ -145,7 +158,7 @@ pub fn rooms(least: usize) -> impl Iterator<Item = (usize, u16)> {
 impl Cases {
     pub fn new(seed: u64) -> Cases {
         let mut r = Random(seed);
-        let locks = (0..3).map(|size| lock(&mut r, size, "Ropeshadow 42".encode_utf16().collect())).collect();
+        let locks = ALGORITHMS.into_iter().map(|algorithm| lock(&mut r, algorithm, units("Ropeshadow 42"))).collect();
         let mut cases = Cases { list: vec![], r, locks };
         cases.hashes();
         cases.blocks();
@@ -165,6 +178,10 @@ impl Cases {
 
     pub fn add(&mut self, group: &'static str, call: Call) {
         self.list.push(Case { group, call, answer: None });
+    }
+
+    pub fn known(&mut self, group: &'static str, call: Call, answer: u16) {
+        self.list.push(Case { group, call, answer: Some(answer) });
     }
 
     fn hashes(&mut self) {
@@ -189,21 +206,21 @@ impl Cases {
         for n in (0..=70).chain([128, 192, 256, 65_536]) {
             self.block("block, each key length", n);
         }
-        for n in [16, 24, 32] {
+        for algorithm in ALGORITHMS {
             for _ in 0..1_000 {
-                self.block("block, random", n);
+                self.block("block, random", algorithm.key_size() as usize);
             }
         }
     }
 
     /// Descriptors that are valid but for the password, of every shape at its limits.
     fn shapes(&mut self) {
-        for alg in ALGORITHMS {
+        for algorithm in ALGORITHMS {
             for major in [2, 3, 4] {
                 for header in [32, 33, 34, 35, 140, 4_094, 4_095, 4_096] {
                     for extra in [0, 1, 2, header - 32] {
-                        let (salt, verifier, hash) = (self.r.bytes(16), self.r.bytes(16), self.r.bytes(32));
-                        let info = info_of(&mut self.r, major, header, extra, alg, &salt, &verifier, &hash);
+                        let verifier = encryption_verifier(&self.r.bytes(16), &self.r.bytes(16), &self.r.bytes(32));
+                        let info = info_of(&mut self.r, major, header, extra, algorithm, &verifier);
                         self.add("descriptor, each shape", Call::Parse { info });
                     }
                 }
@@ -289,12 +306,12 @@ impl Cases {
                     if second <= 12 {
                         let (info, password, package, extra) = (o.info.clone(), o.password.clone(), package.clone(), self.r.choice());
                         let call = Call::Seal { info, password, package, filling, extra, room: 39 };
-                        self.list.push(Case { group: "two rules broken", call, answer: Some(first) });
+                        self.known("two rules broken", call, first);
                         let call = Call::Verdict { info: o.info.clone(), password: o.password.clone() };
-                        self.list.push(Case { group: "two rules broken", call, answer: Some(first) });
+                        self.known("two rules broken", call, first);
                     }
                     let call = Call::Open { info: o.info, password: o.password, stream: o.stream, room: o.room };
-                    self.list.push(Case { group: "two rules broken", call, answer: Some(first) });
+                    self.known("two rules broken", call, first);
                 }
             }
         }
@@ -304,15 +321,11 @@ impl Cases {
     fn passwords(&mut self) {
         for n in 0..=257 {
             let password = self.r.units(n);
-            let right = lock(&mut self.r, n % 3, password);
-            let answer = Some(if n > 255 { 11 } else { 0 });
-            let call = Call::Verdict { info: right.info.clone(), password: right.password.clone() };
-            self.list.push(Case { group: "password, each length", call, answer });
+            let mut l = lock(&mut self.r, ALGORITHMS[n % 3], password);
+            self.known("password, each length", l.verdict(), if n > 255 { 11 } else { 0 });
             if n > 0 && n % 4 == 0 && n < 256 {
-                let mut password = right.password.clone();
-                password[self.r.below(n)] ^= 1 << self.r.below(16);
-                let call = Call::Verdict { info: right.info, password };
-                self.list.push(Case { group: "password, one unit changed", call, answer: Some(12) });
+                l.password[self.r.below(n)] ^= 1 << self.r.below(16);
+                self.known("password, one unit changed", l.verdict(), 12);
             }
         }
     }
@@ -322,15 +335,14 @@ impl Cases {
         for size in 0..3 {
             for n in (0..=100).chain(4_093..=4_099).chain(65_533..=65_539) {
                 let (package, filling, extra) = (self.r.bytes(n), self.r.sixteen(), self.r.choice());
-                let l = &self.locks[size];
-                let stream = sealed(&l.aes, &package, filling, extra != 0);
+                let stream = sealed(&self.locks[size].aes, &package, filling, extra != 0);
                 for (room, answer) in rooms(stream.len()) {
-                    let call = l.seal(&package, filling, extra, room);
-                    self.list.push(Case { group: "sealed, each length", call, answer: Some(answer) });
+                    let call = self.locks[size].seal(&package, filling, extra, room);
+                    self.known("sealed, each length", call, answer);
                 }
                 for (room, answer) in rooms(n) {
-                    let call = l.open(&stream, room);
-                    self.list.push(Case { group: "opened, each length", call, answer: Some(answer) });
+                    let call = self.locks[size].open(&stream, room);
+                    self.known("opened, each length", call, answer);
                 }
             }
         }
@@ -347,7 +359,7 @@ impl Cases {
             }
             let around = [n as u64 + 1, (n as u64).wrapping_sub(1), n as u64 + 16, (n as u64).wrapping_sub(16)];
             let high = [8, 16, 24, 28, 29, 32, 40, 48, 56, 63].map(|shift| n as u64 + (1 << shift));
-            for told in around.into_iter().chain(high).chain([268_435_456, 268_435_457, u64::MAX]) {
+            for told in around.into_iter().chain(high).chain([LIMIT as u64, LIMIT as u64 + 1, u64::MAX]) {
                 let changed = [&told.to_le_bytes()[..], &stream[8..]].concat();
                 self.add("stream, another StreamSize", self.locks[size].open(&changed, 96));
             }

@@ -6,8 +6,9 @@ mod extra;
 mod inputs;
 mod writes;
 
-use archive::GUARD;
+use archive::{GUARD, parts};
 use inputs::{Case, Cases, Lock, Random, lock};
+use second::{algorithms::ALGORITHMS, package::LIMIT, samples::units};
 use std::{collections::BTreeMap, env, process};
 
 /// The answer of a call that comes out the same both ways, or what is wrong with it.
@@ -16,7 +17,6 @@ fn compared(case: &Case) -> Result<u16, String> {
     let (got, expected) = (case.call.by_archive(), case.call.by_second());
     let answer = (expected.word % 65_536) as u16;
     if got.word != expected.word {
-        let parts = |word: u64| format!("answer {} size {}", word % 65_536, word / 65_536);
         return Err(format!("{}, and not {}", parts(got.word), parts(expected.word)));
     }
     if case.answer.is_some_and(|known| known != answer) {
@@ -32,8 +32,6 @@ fn compared(case: &Case) -> Result<u16, String> {
     Ok(answer)
 }
 
-const LIMIT: usize = 268_435_456;
-
 /// The stream of the largest package, sealed with that choice and opened. The second implementation checks every 509th block and, where
 /// there is one, the extra block.
 fn there_and_back(l: &Lock, package: &[u8], filling: [u8; 16], extra: bool) -> Result<Vec<u8>, String> {
@@ -44,16 +42,14 @@ fn there_and_back(l: &Lock, package: &[u8], filling: [u8; 16], extra: bool) -> R
     if stream[..8] != (LIMIT as u64).to_le_bytes() || !(0..LIMIT / 16).step_by(509).chain(LIMIT / 16..blocks).all(right) {
         return Err("the largest package is not sealed".to_string());
     }
-    if l.open(&stream, LIMIT).filled()? != package {
-        return Err("the largest package is not opened".to_string());
-    }
+    l.opens_to(&stream, package)?;
     Ok(stream)
 }
 
 /// The largest package there is, without an extra block and with it, and one byte more.
 fn largest(seed: u64) -> Result<u64, String> {
     let mut r = Random(seed);
-    let l = lock(&mut r, 2, "the largest".encode_utf16().collect());
+    let l = lock(&mut r, ALGORITHMS[2], units("the largest"));
     let mut package: Vec<u8> = (0..LIMIT / 8).flat_map(|_| r.next().to_le_bytes()).collect();
     let filling = r.sixteen();
     there_and_back(&l, &package, filling, false)?;
@@ -67,6 +63,63 @@ fn largest(seed: u64) -> Result<u64, String> {
     Ok(7)
 }
 
+/// What has come of the calls.
+#[derive(Default)]
+struct Tally {
+    passed: u64,
+    failed: u64,
+    derived: u64,
+    groups: BTreeMap<&'static str, u64>,
+    answers: BTreeMap<u16, u64>,
+}
+
+impl Tally {
+    fn fail(&mut self, what: String) {
+        self.failed += 1;
+        println!("FAILED {what}");
+    }
+
+    /// Where many calls fail, the first twenty are told.
+    fn compare(&mut self, seed: u64, cases: &[Case]) {
+        for (number, case) in cases.iter().enumerate() {
+            *self.groups.entry(case.group).or_default() += 1;
+            match compared(case) {
+                Ok(answer) => {
+                    self.passed += 1;
+                    *self.answers.entry(answer).or_default() += 1;
+                    self.derived += u64::from(case.call.derives(answer));
+                }
+                Err(what) if self.failed < 20 => self.fail(format!("seed {seed} call {number} ({}): {what}", case.group)),
+                Err(_) => self.failed += 1,
+            }
+        }
+    }
+
+    /// Calls that go on from what others left: how many there were, or what is wrong with one.
+    fn follow(&mut self, seed: u64, followed: Result<u64, String>) {
+        match followed {
+            Ok(calls) => self.passed += calls,
+            Err(what) => self.fail(format!("seed {seed}: {what}")),
+        }
+    }
+
+    /// That each answer of the library was given, and the counts.
+    fn report(&mut self, seed: u64) {
+        for (group, count) in &self.groups {
+            println!("{count:>6} {group}");
+        }
+        for reply in (0..=16).chain([18]) {
+            if !self.answers.contains_key(&reply) {
+                self.fail(format!("no call was answered {reply}"));
+            }
+        }
+        let answers: Vec<String> = self.answers.iter().map(|(answer, count)| format!("{answer}: {count}")).collect();
+        println!("answers  {}", answers.join(", "));
+        println!("seed {seed}, {} calls compared, {} of them derived a key", self.passed + self.failed, self.derived);
+        println!("calls: {} passed, {} failed", self.passed, self.failed);
+    }
+}
+
 fn main() {
     let words: Vec<u64> = env::args().skip(1).map(|w| w.parse().expect("a number")).collect();
     let seed = words.first().copied().unwrap_or(2026);
@@ -77,44 +130,11 @@ fn main() {
         println!("{:?}", compared(case));
         return;
     }
-    let (mut passed, mut failed, mut derived) = (0u64, 0u64, 0u64);
-    let mut groups: BTreeMap<&str, u64> = BTreeMap::new();
-    let mut seen: BTreeMap<u16, u64> = BTreeMap::new();
-    for (number, case) in cases.iter().enumerate() {
-        *groups.entry(case.group).or_default() += 1;
-        match compared(case) {
-            Ok(answer) => {
-                passed += 1;
-                *seen.entry(answer).or_default() += 1;
-                derived += u64::from(case.call.derives(answer));
-            }
-            Err(what) => {
-                failed += 1;
-                if failed <= 20 {
-                    println!("FAILED seed {seed} call {number} ({}): {what}", case.group);
-                }
-            }
-        }
-    }
+    let mut tally = Tally::default();
+    tally.compare(seed, &cases);
     for followed in [largest(seed), extra::both_streams(seed), writes::taken_up(seed)] {
-        match followed {
-            Ok(calls) => passed += calls,
-            Err(what) => {
-                failed += 1;
-                println!("FAILED seed {seed}: {what}");
-            }
-        }
+        tally.follow(seed, followed);
     }
-    for (group, count) in groups {
-        println!("{count:>6} {group}");
-    }
-    for reply in (0..=16).chain([18]).filter(|reply| !seen.contains_key(reply)) {
-        failed += 1;
-        println!("FAILED: no call was answered {reply}");
-    }
-    let answers: Vec<String> = seen.iter().map(|(answer, count)| format!("{answer}: {count}")).collect();
-    println!("answers  {}", answers.join(", "));
-    println!("seed {seed}, {} calls compared, {derived} of them derived a key", passed + failed);
-    println!("calls: {passed} passed, {failed} failed");
-    process::exit(i32::from(failed != 0));
+    tally.report(seed);
+    process::exit(i32::from(tally.failed != 0));
 }

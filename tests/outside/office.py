@@ -7,7 +7,7 @@ import olefile
 
 sys.dont_write_bytecode = True
 import producers
-from producers import ROOT, by_command, by_msoffcrypto, check, said, sealed, streams, unlock
+from producers import ROOT, SLICE, by_command, by_msoffcrypto, check, entry, said, sealed, streams, unlock
 
 SOURCE = "libapache-poi-java"
 OFFICE = {"spreadsheet/58616.xlsx": "VelvetSweatshop", "poifs/protect.xlsx": "VelvetSweatshop",
@@ -69,9 +69,7 @@ def locked_documents(archive, version, folder):
 
 def parsed(info):
     """The answer of the parser."""
-    parse = unlock.library().ropeshadow_parse
-    parse.argtypes, parse.restype = [ctypes.c_char_p, ctypes.c_size_t, ctypes.c_void_p], ctypes.c_uint64
-    return parse(info, len(info), ctypes.create_string_buffer(84))
+    return entry("parse", *SLICE, ctypes.c_void_p)(info, len(info), ctypes.create_string_buffer(84))
 
 def by_c(built, book, password):
     """What the example in C says of a document, and the package that it leaves, or None."""

@@ -19,6 +19,8 @@ NAMES = {"no name": "", "a name that is a zero unit": "\0", "a name of 4,064 byt
          "a name without a zero unit": PROVIDER[:-1], "a name with a zero unit within": "one\0two\0"}
 BITS = (128, 192, 256)
 SIZES = [0, 1, 15, 16, 17, 31, 32, 33, 4080, 4095, 4096, 4097, 8192, 65535, 65536, 65537]
+# the types of what the library is lent and given: bytes with their count, memory to write with its length, and a number
+SLICE, OUT, NUMBER = [ctypes.c_char_p, ctypes.c_size_t], [ctypes.c_void_p, ctypes.c_size_t], ctypes.c_uint64
 passed = failed = 0
 
 def check(what, holds):
@@ -56,6 +58,12 @@ def compound(path, info, stream):
             pathlib.Path(folder, name).write_bytes(contents)
         subprocess.run(["gsf", "createole", str(path), f"{folder}/EncryptionInfo", f"{folder}/EncryptedPackage"], check=True, capture_output=True)
 
+def entry(name, *types):
+    """A function of the library, with parameters of these types."""
+    function = unlock.library()[f"ropeshadow_{name}"]
+    function.argtypes, function.restype = types, NUMBER
+    return function
+
 def extra_block(size):
     """Whether a package of that size may have an extra block (2026-02)."""
     return size > 0 and size % 4096 == 0
@@ -63,9 +71,7 @@ def extra_block(size):
 def sealed(info, password, package, extra=0, filling=bytes(range(1, 17))):
     """The whole stream by the library, unless told otherwise with a filling that shows if it is looked at."""
     units, size = password.encode("utf-16-le"), len(package)
-    seal = unlock.library().ropeshadow_seal
-    seal.argtypes = [ctypes.c_char_p, ctypes.c_size_t] * 3 + [ctypes.c_uint64] * 3 + [ctypes.c_void_p, ctypes.c_size_t]
-    seal.restype = ctypes.c_uint64
+    seal = entry("seal", *SLICE * 3, *[NUMBER] * 3, *OUT)
     out = ctypes.create_string_buffer(size + 24)
     word = seal(info, len(info), units, len(units) // 2, package, size, *struct.unpack("<2Q", filling), extra, out, size + 24)
     check("sealed", word == 65536 * (8 + -(-size // 16) * 16 + (16 if extra and extra_block(size) else 0)))
@@ -80,9 +86,7 @@ def both_sealed(info, password, package):
 def written(bits, password, name):
     """A new EncryptionInfo by the library, its salt, verifier and filling random."""
     units, name = password.encode("utf-16-le"), name.encode("utf-16-le")
-    write = unlock.library().ropeshadow_write_info
-    write.argtypes = [ctypes.c_uint64] + [ctypes.c_char_p, ctypes.c_size_t] * 2 + [ctypes.c_uint64] * 6 + [ctypes.c_void_p, ctypes.c_size_t]
-    write.restype = ctypes.c_uint64
+    write = entry("write_info", NUMBER, *SLICE * 2, *[NUMBER] * 6, *OUT)
     room = len(name) + 116
     out = ctypes.create_string_buffer(room)
     word = write(bits, units, len(units) // 2, name, len(name), *(random.getrandbits(64) for _ in range(6)), out, room)
@@ -92,6 +96,15 @@ def written(bits, password, name):
 def fixed(info):
     """What is the same in two descriptors with the usual name and one key size, but for the major version."""
     return len(info), info[2:156], info[188:192]
+
+def another(password):
+    """A password that is wrong, and the answer to it."""
+    return password + "?", 11 if len(password) == 255 else 12
+
+def by_library(book, password):
+    """The answer to a locked document, and the package."""
+    info, stream = streams(book)
+    return unlock.opened(info, password, stream)
 
 def by_msoffcrypto(info, password, stream):
     """The package by msoffcrypto-tool's own functions, which take any bytes for a package."""
@@ -106,6 +119,12 @@ def by_command(book, password):
         opened = pathlib.Path(folder, "opened")
         done = subprocess.run(["msoffcrypto-tool", "-p", password, book, opened], stdin=subprocess.DEVNULL, capture_output=True)
         return opened.read_bytes() if done.returncode == 0 else None
+
+def by_poi(java, book, password):
+    """The package by Apache POI, or None where it refuses."""
+    with tempfile.TemporaryDirectory() as folder:
+        opened = pathlib.Path(folder, "opened")
+        return opened.read_bytes() if java.ask("open", password, book, opened) == "done" else None
 
 def workbook(path, rows):
     book = openpyxl.Workbook()
@@ -137,7 +156,7 @@ def even(path):
 
 def poi(folder, worker):
     """What Apache POI locks, of each size and key size and with each password; returns a workbook that it locked."""
-    plain, locked, opened = folder / "plain", folder / "poi.xlsx", folder / "opened"
+    plain, locked = folder / "plain", folder / "poi.xlsx"
     jobs = [(bits, PASSWORDS[0], n) for bits in BITS for n in SIZES] + [(256, p, 1001) for p in PASSWORDS]
     for bits, password, n in jobs:
         what = f"POI, {bits} bits, {n} bytes, {len(password)} characters"
@@ -151,13 +170,14 @@ def poi(folder, worker):
         check(f"{what}: opened", unlock.opened(info, password, stream) == ((15, b"") if whole and not extra_block(n) else (0, package)))
         check(f"{what}: cut", unlock.opened(info, password, stream[:-16] if whole else stream) == (0, package))
         check(f"{what}: opened by msoffcrypto-tool", by_msoffcrypto(info, password, stream) == package)
-        check(f"{what}: opened by POI", worker.ask("open", password, locked, opened) == "done" and opened.read_bytes() == package)
-        check(f"{what}: another password", unlock.opened(info, password + "?", stream)[0] == (11 if len(password) == 255 else 12))
+        check(f"{what}: opened by POI", by_poi(worker, locked, password) == package)
+        wrong, answer = another(password)
+        check(f"{what}: another password", unlock.opened(info, wrong, stream)[0] == answer)
         for how, again in both_sealed(info, password, package):
             check(f"{what}: {how}, opened by msoffcrypto-tool", by_msoffcrypto(info, password, again) == package)
             compound(locked, info, again)
-            check(f"{what}: {how}, opened by POI", worker.ask("open", password, locked, opened) == "done" and opened.read_bytes() == package)
-    check("POI: 256 units", worker.ask("lock", 128, "z" * 256, plain, locked) == "done" and unlock.opened(streams(locked)[0], "z" * 256, b"")[0] == 11)
+            check(f"{what}: {how}, opened by POI", by_poi(worker, locked, password) == package)
+    check("POI: 256 units", worker.ask("lock", 128, "z" * 256, plain, locked) == "done" and by_library(locked, "z" * 256)[0] == 11)
     book = folder / "by-poi.xlsx"
     package = uneven(plain)
     check("POI: a workbook locked", worker.ask("lock", 128, PASSWORDS[1], plain, book) == "done")
@@ -180,36 +200,34 @@ def libre(folder, worker):
         if rows >= 220 and len(remainders) == 2:
             break
     said(f"  LibreOffice, sizes that are a multiple of 16 tried: {True in remainders}; others: {False in remainders}")
-    check("LibreOffice: 256 units", worker.ask("lock", "z" * 256, plain, locked) == "done" and unlock.opened(streams(locked)[0], "z" * 256, b"")[0] == 11)
+    check("LibreOffice: 256 units", worker.ask("lock", "z" * 256, plain, locked) == "done" and by_library(locked, "z" * 256)[0] == 11)
     book = folder / "by-libre.xlsx"
     compound(book, info, sealed(info, password, plain.read_bytes()))
     check("sealed, opened by LibreOffice", worker.ask("read", password, book) == "seat 0")
     check("LibreOffice: locked", worker.ask("lock", password, plain, book) == "done")
-    package = unlock.opened(streams(book)[0], password, streams(book)[1])[1]
-    return book, package
+    return book, by_library(book, password)[1]
 
 def anew(folder, java):
     """Packages locked from nothing, of each size and key size and with each password."""
-    locked, opened = folder / "anew", folder / "opened"
+    locked = folder / "anew"
     for bits, password, n in [(b, PASSWORDS[0], n) for b in BITS for n in SIZES] + [(b, p, 1001) for b in BITS for p in PASSWORDS]:
         what = f"locked from nothing, {bits} bits, {n} bytes, {len(password)} characters"
-        package, info, other = random.randbytes(n), written(bits, password, PROVIDER), password + "?"
+        package, info = random.randbytes(n), written(bits, password, PROVIDER)
+        wrong, answer = another(password)
         for how, stream in both_sealed(info, password, package):
             case = f"{what}, {how}"
             check(f"{case}: opened", unlock.opened(info, password, stream) == (0, package))
-            check(f"{case}: another password", unlock.opened(info, other, stream)[0] == (11 if len(password) == 255 else 12))
+            check(f"{case}: another password", unlock.opened(info, wrong, stream)[0] == answer)
             check(f"{case}: opened by msoffcrypto-tool", by_msoffcrypto(info, password, stream) == package)
-            check(f"{case}: another password, msoffcrypto-tool", by_msoffcrypto(info, other, stream) is None)
+            check(f"{case}: another password, msoffcrypto-tool", by_msoffcrypto(info, wrong, stream) is None)
             compound(locked, info, stream)
-            check(f"{case}: opened by POI", java.ask("open", password, locked, opened) == "done" and opened.read_bytes() == package)
-            check(f"{case}: another password, POI", "wrong password" in java.ask("open", other, locked, opened))
+            check(f"{case}: opened by POI", by_poi(java, locked, password) == package)
+            check(f"{case}: another password, POI", "wrong password" in java.ask("open", wrong, locked, folder / "opened"))
 
-def openers(folder, java, office, book, password, package):
+def openers(java, office, book, password, package):
     """Who opens a workbook: byte for byte, LibreOffice by the text of its first cell."""
-    opened = folder / "opened"
-    opened.unlink(missing_ok=True)
     by = {"msoffcrypto-tool": by_command(book, password) == package,
-          "Apache POI": java.ask("open", password, book, opened) == "done" and opened.read_bytes() == package,
+          "Apache POI": by_poi(java, book, password) == package,
           "LibreOffice": office is not None and office.ask("read", password, book) == "seat 0"}
     return {name for name in by if by[name]}
 
@@ -223,6 +241,14 @@ def asked(office, bits, password, name):
         who.add("Apache POI")
     return who
 
+def opened_by(case, java, office, book, password, package, must):
+    """Who opens a workbook; the library and those that must are checked."""
+    check(f"{case}: opened", by_library(book, password) == (0, package))
+    who = openers(java, office, book, password, package)
+    for one in must:
+        check(f"{case}: opened by {one}", one in who)
+    return who
+
 def anew_workbooks(folder, java, office):
     """A workbook locked from nothing, with each key size and password and with other names; who opens it is said."""
     plain, book, theirs = (folder / name for name in ("plain.xlsx", "anew.xlsx", "poi.xlsx"))
@@ -232,14 +258,10 @@ def anew_workbooks(folder, java, office):
         seen = Counter()
         for password in passwords:
             info = written(bits, password, name)
-            stream = sealed(info, password, package)
-            compound(book, info, stream)
+            compound(book, info, sealed(info, password, package))
             case = f"workbook locked from nothing, {what}, {len(password)} characters"
-            check(f"{case}: opened", unlock.opened(info, password, stream) == (0, package))
-            who = openers(folder, java, office, book, password, package)
-            for one in asked(office, bits, password, name):
-                check(f"{case}: opened by {one}", one in who)
-            check(f"{case}: another password", not openers(folder, java, office, book, password + "?", package))
+            who = opened_by(case, java, office, book, password, package, asked(office, bits, password, name))
+            check(f"{case}: another password", not openers(java, office, book, another(password)[0], package))
             seen.update(who)
             if office and name == PROVIDER:
                 check(f"{case}: locked by POI", java.ask("lock", bits, password, plain, theirs) == "done")
@@ -255,15 +277,12 @@ def extra_workbooks(folder, java, office):
     for bits in BITS:
         what = f"workbook of {len(package)} bytes, {bits} bits"
         check(f"{what}: locked by POI", java.ask("lock", bits, password, plain, book) == "done")
-        check(f"{what}: POI's opened", unlock.opened(streams(book)[0], password, streams(book)[1]) == (0, package))
-        said(f"  {what}, locked by POI: opened by " + ", ".join(sorted(openers(folder, java, office, book, password, package))))
+        check(f"{what}: POI's opened", by_library(book, password) == (0, package))
+        said(f"  {what}, locked by POI: opened by " + ", ".join(sorted(openers(java, office, book, password, package))))
         info = written(bits, password, PROVIDER)
         for how, stream in both_sealed(info, password, package):
             compound(book, info, stream)
-            check(f"{what}, {how}: opened", unlock.opened(info, password, stream) == (0, package))
-            who = openers(folder, java, office, book, password, package)
-            for one in asked(office, bits, password, PROVIDER):
-                check(f"{what}, {how}: opened by {one}", one in who)
+            who = opened_by(f"{what}, {how}", java, office, book, password, package, asked(office, bits, password, PROVIDER))
             said(f"  {what}, {how}: opened by " + ", ".join(sorted(who)))
 
 def command(folder, book, password):

@@ -1,5 +1,6 @@
 //! AES from FIPS 197, in the tables' own terms: the substitution is computed from the field, products are by logarithms, and the
 //! state is a matrix of rows, so that it has little in common with the flat lists and written tables that the crates prove.
+use crate::algorithms::Algorithm;
 
 /// A product in the field modulo x^8 + x^4 + x^3 + x + 1 (4.2).
 fn product(mut a: u8, mut b: u8) -> u8 {
@@ -40,16 +41,14 @@ pub struct Aes {
 }
 
 impl Aes {
-    /// The expanded key (5.2), for keys of 16, 24 and 32 bytes alone.
-    pub fn new(key: &[u8]) -> Option<Aes> {
-        if ![16, 24, 32].contains(&key.len()) {
-            return None;
-        }
+    /// The expanded key (5.2), or reply 8 for one that is not of 16, 24 or 32 bytes.
+    pub fn new(key: &[u8]) -> Result<Aes, u16> {
+        let rounds = Algorithm::of_bits(8 * key.len() as u64).ok_or(8u16)?.rounds;
         let (there, back) = substitutions();
         let words = key.len() / 4;
         let mut w: Vec<[u8; 4]> = key.chunks(4).map(|c| c.try_into().unwrap()).collect();
         let mut constant = 1;
-        for i in words..4 * (words + 7) {
+        for i in words..4 * (rounds + 1) {
             let mut t = w[i - 1];
             if i % words == 0 {
                 t.rotate_left(1);
@@ -63,7 +62,7 @@ impl Aes {
             w.push(std::array::from_fn(|j| before[j] ^ t[j]));
         }
         let keys = w.chunks(4).map(|four| four.concat().try_into().unwrap()).collect();
-        Some(Aes { keys, there, back })
+        Ok(Aes { keys, there, back })
     }
 
     pub fn rounds(&self) -> usize {
@@ -97,6 +96,20 @@ impl Aes {
         }
         add(s, self.keys[0])
     }
+
+    /// Whole blocks, each encrypted by itself.
+    pub fn encrypt_all(&self, bytes: &[u8]) -> Vec<u8> {
+        each_block(bytes, |b| self.encrypt(b))
+    }
+
+    /// Whole blocks, each decrypted by itself.
+    pub fn decrypt_all(&self, bytes: &[u8]) -> Vec<u8> {
+        each_block(bytes, |b| self.decrypt(b))
+    }
+}
+
+fn each_block(bytes: &[u8], turn: impl Fn([u8; 16]) -> [u8; 16]) -> Vec<u8> {
+    bytes.chunks(16).flat_map(|c| turn(c.try_into().unwrap())).collect()
 }
 
 fn add(s: [u8; 16], k: [u8; 16]) -> [u8; 16] {

@@ -1,13 +1,12 @@
 //! EncryptionInfo read from its front to its end (01, "EncryptionInfo, byte for byte"; replies 1 to 10). Each reply is given where
 //! the reading first meets what is wrong, so that the order of the replies is the order of the code.
+use crate::{algorithms::Algorithm, require};
 
 #[derive(Debug, PartialEq)]
 pub struct Descriptor {
     pub major: u16,
     pub minor: u16,
-    pub alg_id: u32,
-    /// In bytes.
-    pub key_size: u32,
+    pub algorithm: Algorithm,
     pub name_place: u32,
     pub name_length: u32,
     pub salt: [u8; 16],
@@ -19,7 +18,7 @@ impl Descriptor {
     /// The 84 bytes in which the outside interface hands a descriptor over.
     pub fn bytes(&self) -> Vec<u8> {
         let mut out = [self.major.to_le_bytes(), self.minor.to_le_bytes()].concat();
-        for number in [self.alg_id, self.key_size, self.name_place, self.name_length] {
+        for number in [self.algorithm.id, self.algorithm.key_size(), self.name_place, self.name_length] {
             out.extend(number.to_le_bytes());
         }
         [&out[..], &self.salt, &self.verifier, &self.hash].concat()
@@ -45,10 +44,6 @@ impl Reader<'_> {
     }
 }
 
-fn require(holds: bool, reply: u16) -> Result<(), u16> {
-    if holds { Ok(()) } else { Err(reply) }
-}
-
 pub fn parse(info: &[u8]) -> Result<Descriptor, u16> {
     require(info.len() >= 12, 1)?;
     let mut rest = Reader(info);
@@ -61,9 +56,9 @@ pub fn parse(info: &[u8]) -> Result<Descriptor, u16> {
     let (_flags, size_extra, alg_id, alg_id_hash) = (rest.four(), rest.four(), rest.four(), rest.four());
     let (key_bits, _provider, _reserved1, _reserved2) = (rest.four(), rest.four(), rest.four(), rest.four());
     let name_length = (header_size - 32).checked_sub(size_extra).filter(|n| n % 2 == 0).ok_or(5u16)?;
-    let bits = [(0x660e, 128), (0x660f, 192), (0x6610, 256)].iter().find(|row| row.0 == alg_id).ok_or(6u16)?.1;
+    let algorithm = Algorithm::of_id(alg_id).ok_or(6u16)?;
     require(alg_id_hash == 0x8004, 7)?;
-    require(key_bits == bits, 8)?;
+    require(key_bits == algorithm.bits, 8)?;
     let name_place = (info.len() - rest.0.len()) as u32;
     rest.0 = &rest.0[header_size as usize - 32..];
 
@@ -71,5 +66,5 @@ pub fn parse(info: &[u8]) -> Result<Descriptor, u16> {
     require(salt_size == 16, 9)?;
     let (hash_size, hash) = (rest.four(), rest.take());
     require(hash_size == 20, 10)?;
-    Ok(Descriptor { major, minor, alg_id, key_size: bits / 8, name_place, name_length, salt, verifier, hash })
+    Ok(Descriptor { major, minor, algorithm, name_place, name_length, salt, verifier, hash })
 }

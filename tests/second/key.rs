@@ -1,5 +1,8 @@
 //! From password to key, and the verdict (01, "From password to key"; replies 11 and 12), by the steps of the text.
-use crate::{aes::Aes, descriptor::parse, sha1::sha1};
+use crate::{aes::Aes, algorithms::Algorithm, descriptor::parse, require, sha1::sha1};
+
+/// The most units of a password.
+pub const UNITS: usize = 255;
 
 pub struct Derived {
     pub h: [u8; 20],
@@ -24,18 +27,21 @@ pub fn derive(salt: &[u8], password: &[u16]) -> Derived {
     Derived { h, b, key: [half(0x36), half(0x5c)].concat() }
 }
 
+/// AES under the password's key.
+pub fn keyed(algorithm: Algorithm, salt: &[u8], password: &[u16]) -> Aes {
+    Aes::new(&derive(salt, password).key[..algorithm.key_size() as usize]).unwrap()
+}
+
 /// Whether the hash of the decrypted verifier is the first 20 bytes of the decrypted hash.
 pub fn matches(aes: &Aes, verifier: [u8; 16], hash: [u8; 32]) -> bool {
-    let stored: Vec<u8> = hash.chunks(16).flat_map(|c| aes.decrypt(c.try_into().unwrap())).collect();
-    sha1(&aes.decrypt(verifier)) == stored[..20]
+    sha1(&aes.decrypt(verifier)) == aes.decrypt_all(&hash)[..20]
 }
 
 /// The cipher under the password's key, or the first reply of 1 to 12 that applies.
 pub fn unlock(info: &[u8], password: &[u16]) -> Result<Aes, u16> {
     let d = parse(info)?;
-    if password.len() > 255 {
-        return Err(11);
-    }
-    let aes = Aes::new(&derive(&d.salt, password).key[..d.key_size as usize]).unwrap();
-    if matches(&aes, d.verifier, d.hash) { Ok(aes) } else { Err(12) }
+    require(password.len() <= UNITS, 11)?;
+    let aes = keyed(d.algorithm, &d.salt, password);
+    require(matches(&aes, d.verifier, d.hash), 12)?;
+    Ok(aes)
 }

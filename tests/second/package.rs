@@ -1,8 +1,9 @@
 //! The package stream (01, "The package stream", with the extra block of request 2026-02; replies 13 to 16), on whole vectors: what is
 //! written, or the reply.
-use crate::{aes::Aes, key::unlock};
+use crate::{aes::Aes, key::unlock, require};
 
-const LIMIT: u64 = 268_435_456;
+/// The most bytes of a package.
+pub const LIMIT: usize = 268_435_456;
 
 /// How long the ciphertext of a package of so many bytes is, without an extra block and with it: the same where it has none.
 fn lengths(size: usize) -> [usize; 2] {
@@ -10,37 +11,23 @@ fn lengths(size: usize) -> [usize; 2] {
     if size > 0 && size % 4_096 == 0 { [least, least + 16] } else { [least, least] }
 }
 
-fn each_block(bytes: &[u8], turn: impl Fn([u8; 16]) -> [u8; 16]) -> Vec<u8> {
-    bytes.chunks(16).flat_map(|c| turn(c.try_into().unwrap())).collect()
-}
-
 /// The package of a stream, given the room of the output.
 pub fn open(info: &[u8], password: &[u16], stream: &[u8], room: usize) -> Result<Vec<u8>, u16> {
     let aes = unlock(info, password)?;
-    let Some((size, blocks)) = stream.split_first_chunk::<8>() else { return Err(13) };
+    let (size, blocks) = stream.split_first_chunk::<8>().ok_or(13u16)?;
     let size = u64::from_le_bytes(*size);
-    if size > LIMIT {
-        return Err(14);
-    }
+    require(size <= LIMIT as u64, 14)?;
     let size = size as usize;
-    if !lengths(size).contains(&blocks.len()) {
-        return Err(15);
-    }
-    if room < size {
-        return Err(16);
-    }
-    Ok(each_block(blocks, |b| aes.decrypt(b))[..size].to_vec())
+    require(lengths(size).contains(&blocks.len()), 15)?;
+    require(room >= size, 16)?;
+    Ok(aes.decrypt_all(blocks)[..size].to_vec())
 }
 
 /// The whole stream of a package, given the choice of an extra block and the room of the output.
 pub fn seal(info: &[u8], password: &[u16], package: &[u8], filling: [u8; 16], extra: bool, room: usize) -> Result<Vec<u8>, u16> {
     let aes = unlock(info, password)?;
-    if package.len() as u64 > LIMIT {
-        return Err(14);
-    }
-    if room < lengths(package.len())[usize::from(extra)] + 8 {
-        return Err(16);
-    }
+    require(package.len() <= LIMIT, 14)?;
+    require(room >= lengths(package.len())[usize::from(extra)] + 8, 16)?;
     Ok(sealed(&aes, package, filling, extra))
 }
 
@@ -48,5 +35,5 @@ pub fn seal(info: &[u8], password: &[u16], package: &[u8], filling: [u8; 16], ex
 pub fn sealed(aes: &Aes, package: &[u8], filling: [u8; 16], extra: bool) -> Vec<u8> {
     let needed = lengths(package.len())[usize::from(extra)] - package.len();
     let whole = [package, &filling[..needed]].concat();
-    [&(package.len() as u64).to_le_bytes()[..], &each_block(&whole, |b| aes.encrypt(b))].concat()
+    [&(package.len() as u64).to_le_bytes()[..], &aes.encrypt_all(&whole)].concat()
 }

@@ -1,5 +1,6 @@
 //! SHA-1 from FIPS 180-4, in the form of section 6.1.3: the schedule is kept as sixteen words in a ring, so that it has little in
 //! common with the array of eighty that the crates prove.
+use crate::require;
 
 const H: [u32; 5] = [0x6745_2301, 0xefcd_ab89, 0x98ba_dcfe, 0x1032_5476, 0xc3d2_e1f0];
 
@@ -49,4 +50,10 @@ pub fn sha1(message: &[u8]) -> [u8; 20] {
         four.copy_from_slice(&word.to_be_bytes());
     }
     digest
+}
+
+/// The hash as a part of the product, or reply 18 for a message that is too long for it.
+pub fn hashed(message: &[u8]) -> Result<[u8; 20], u16> {
+    require(message.len() <= 65_536, 18)?;
+    Ok(sha1(message))
 }

@@ -3,6 +3,7 @@
 use second::{
     key::unlock,
     package::{open, seal},
+    samples::{hex, pattern, rising, stepping, units},
     sha1::sha1,
     writer::write_info,
 };
@@ -10,10 +11,6 @@ use second::{
 const LETTERS: &[u8; 17] = b"abcdefghijklmnopq";
 
 type Result = std::result::Result<Vec<u8>, u16>;
-
-fn units(text: &str) -> Vec<u16> {
-    text.encode_utf16().collect()
-}
 
 /// What a call leaves: its reply and the whole buffer.
 fn line(name: &str, result: &Result, room: usize) {
@@ -26,24 +23,8 @@ fn line(name: &str, result: &Result, room: usize) {
         }
         Err(answer) => (*answer, 0),
     };
-    let hex = |bytes: &[u8]| bytes.iter().map(|b| format!("{b:02x}")).collect::<String>();
     let shown = if room <= 64 { format!("out {}", hex(&out)) } else { format!("SHA-1 of out {}", hex(&sha1(&out))) };
     println!("{name}: answer {answer} size {size} {shown}");
-}
-
-/// 00 to 0f.
-fn rising() -> [u8; 16] {
-    std::array::from_fn(|i| i as u8)
-}
-
-/// 00 to ff by steps of 11: the salt of 000 8.1, the verifier of 000 8.4.
-fn stepping() -> [u8; 16] {
-    std::array::from_fn(|i| 0x11 * i as u8)
-}
-
-/// Byte i is i modulo 251.
-fn pattern(n: u32) -> Vec<u8> {
-    (0..n).map(|i| (i % 251) as u8).collect()
 }
 
 /// The bytes of the usual provider name and its zero unit.

@@ -1,41 +1,37 @@
 //! The published vectors by the second implementation: the lines that crates/vectors prints. The gate compares the two.
-use second::{aes::Aes, key, sha1};
-
-fn hex(bytes: &[u8]) -> String {
-    bytes.iter().map(|b| format!("{b:02x}")).collect()
-}
+use second::{
+    aes::Aes,
+    algorithms::Algorithm,
+    key::{derive, keyed, matches},
+    samples::{hex, pattern, rising, stepping, units},
+    sha1::hashed,
+};
 
 fn bytes(digits: &str) -> Vec<u8> {
     (0..digits.len()).step_by(2).map(|i| u8::from_str_radix(&digits[i..i + 2], 16).unwrap()).collect()
 }
 
-fn units(text: &str) -> Vec<u16> {
-    text.encode_utf16().collect()
+/// An answer with its bytes, which are zeros where it is not 0.
+fn answered<const N: usize>(result: Result<[u8; N], u16>) -> String {
+    format!("answer {} {}", result.err().unwrap_or(0), hex(&result.unwrap_or([0; N])))
 }
 
 // ---- SHA-1 (FIPS 180-4)
 
 fn hash_line(name: &str, message: &[u8]) {
-    let (answer, digest) = if message.len() > 65_536 { (18, [0; 20]) } else { (0, sha1::sha1(message)) };
-    println!("sha1 {name}: answer {answer} {}", hex(&digest));
+    println!("sha1 {name}: {}", answered(hashed(message)));
 }
 
 fn hashes() {
     hash_line("empty", b"");
     hash_line("abc", b"abc");
     hash_line("two blocks", b"abcdbcdecdefdefgefghfghighijhijkijkljklmklmnlmnomnopnopq");
-    let pattern: Vec<u8> = (0..65_537u32).map(|i| (i % 251) as u8).collect();
     for n in [1, 55, 56, 63, 64, 65, 119, 120, 4_096, 65_536, 65_537] {
-        hash_line(&format!("pattern {n}"), &pattern[..n]);
+        hash_line(&format!("pattern {n}"), &pattern(n));
     }
 }
 
 // ---- AES (FIPS 197, appendices A and C)
-
-fn block_line(n: usize, way: &str, block: Option<[u8; 16]>) {
-    let answer = if block.is_some() { 0 } else { 8 };
-    println!("aes key {n}: {way} answer {answer} {}", hex(&block.unwrap_or([0; 16])));
-}
 
 fn ciphers() {
     for key in [
@@ -46,36 +42,35 @@ fn ciphers() {
         let (n, aes) = (key.len() / 2, Aes::new(&bytes(key)).unwrap());
         println!("aes key {n}: rounds {} last round key {}", aes.rounds(), hex(&aes.last_round_key()));
     }
-    let rising: Vec<u8> = (0..33).collect();
-    let block: [u8; 16] = bytes("00112233445566778899aabbccddeeff").try_into().unwrap();
     for n in [16, 24, 32, 0, 15, 17, 23, 31, 33] {
-        let aes = Aes::new(&rising[..n]);
-        let there = aes.as_ref().map(|a| a.encrypt(block));
-        block_line(n, "encrypt", there);
-        block_line(n, "decrypt", aes.as_ref().map(|a| a.decrypt(there.unwrap())));
+        let key: Vec<u8> = (0..n).collect();
+        let there = Aes::new(&key).map(|aes| aes.encrypt(stepping()));
+        println!("aes key {n}: encrypt {}", answered(there));
+        let back = Aes::new(&key).map(|aes| aes.decrypt(there.unwrap()));
+        println!("aes key {n}: decrypt {}", answered(back));
     }
 }
 
 // ---- the key derivation and the verdict (000 section 8, 002)
 
-fn key_line(name: &str, salt: &str, password: &[u16]) {
-    let d = key::derive(&bytes(salt), password);
+fn key_line(name: &str, salt: &[u8], password: &[u16]) {
+    let d = derive(salt, password);
     let key = |n: usize| hex(&d.key[..n]);
     println!("key {name}: H {} B {} 16 {} 24 {} 32 {}", hex(&d.h), hex(&d.b), key(16), key(24), key(32));
 }
 
 fn keys() {
-    let rising = "000102030405060708090a0b0c0d0e0f";
-    key_line("password, rising salt", rising, &units("password"));
-    key_line("Password1234_", "e88266490c5bd1eebd2b4394e3f830ef", &units("Password1234_"));
-    key_line("password, salt 00 to ff", "00112233445566778899aabbccddeeff", &units("password"));
-    key_line("empty, rising salt", rising, &[]);
-    key_line("0 and half a pair, rising salt", rising, &[0, 0xd800, 0xffff]);
+    key_line("password, rising salt", &rising(), &units("password"));
+    key_line("Password1234_", &bytes("e88266490c5bd1eebd2b4394e3f830ef"), &units("Password1234_"));
+    key_line("password, salt 00 to ff", &stepping(), &units("password"));
+    key_line("empty, rising salt", &rising(), &[]);
+    key_line("0 and half a pair, rising salt", &rising(), &[0, 0xd800, 0xffff]);
     let verifier: [u8; 16] = bytes("2589aebb860b8a41fa690e76ed56b0be").try_into().unwrap();
     let hash: [u8; 32] = bytes("deddb6b29f9cd382a0a204a51b7fdf7eb1233f14fe5c99d96f5de4db083d925e").try_into().unwrap();
+    let aes_256 = Algorithm::of_bits(256).unwrap();
     for (name, password) in [("000 8.4", "password"), ("000 8.4, one unit off", "passwore")] {
-        let aes = Aes::new(&key::derive(&bytes(rising), &units(password)).key[..32]).unwrap();
-        let answer = if key::matches(&aes, verifier, hash) { 0 } else { 12 };
+        let aes = keyed(aes_256, &rising(), &units(password));
+        let answer = if matches(&aes, verifier, hash) { 0 } else { 12 };
         println!("verdict {name}: answer {answer}");
     }
 }
