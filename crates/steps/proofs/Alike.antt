@@ -1,0 +1,62 @@
+-- A unit is opened by a look at itself and the one before it, so units that agree open alike where the first of them has the same unit
+-- before it, or starts. Assumes nothing.
+use mathlib.Core.Path.{_≡_, sym, ap, ap₂, _∙_}
+use mathlib.Core.Logic.{_⊎_, inl, inr}
+use mathlib.Core.List.{List}
+use Prim.Native.Nat.{ℕ, zero, suc, _+_, _-_, _*_, _/_, _≤_, _<_}
+use native.Mathlib.Nat.{add-zero, add-suc, mul-div-le, lt-mul-div-succ, le-div-iff-mul-le, div-lt-iff-lt-mul, mul-le-mul-left}
+use native.Mathlib.Omega.{arith}
+use lib.ListN.{take, drop}
+use Rattle.steps.specs.Steps.{unit, Step, before, openUnits, Starts, Sized}
+use Rattle.steps.proofs.Units.{part-units, unit-drop, take-grown, grown-alike}
+use Rattle.steps.proofs.Made.{unit-open}
+
+module _ (step : Step) (s t : List ℕ) where
+  abbrev u : ℕ
+  u = step .width
+
+  -- each unit: itself, and the one before it unless it starts
+  unit-alike : (i k : ℕ) → ((j : ℕ) → j ≤ k → unit u (i + j) s ≡ unit u (i + j) t) → Starts step i ⊎ (before step i s ≡ before step i t)
+      → step .back (i + k) (before step (i + k) s) (unit u (i + k) s) ≡ step .back (i + k) (before step (i + k) t) (unit u (i + k) t)
+  unfolding before
+  unit-alike i zero h (inl e) =
+      let q = rw add-zero at (h zero (omega arith)) in
+      rw (add-zero i) (e .alike (before step i s) (before step i t) (unit u i s) ∙ ap (step .back i (before step i t)) q)
+  unit-alike i zero h (inr e) =
+      let q = rw add-zero at (h zero (omega arith)) in
+      rw (add-zero i) (ap₂ (step .back i) e q)
+  unit-alike i (suc k) h e =
+      let q = h (suc k) (omega arith) in
+      rw (add-suc i k) (ap₂ (step .back (suc (i + k))) (h k (omega arith)) (rw (add-suc i k) at q))
+
+  module _ (z : Sized step) where
+    -- m units from unit i on
+    pub open-alike : (i m n : ℕ) → i + m ≤ n → ((j : ℕ) → j < m → unit u (i + j) s ≡ unit u (i + j) t)
+        → Starts step i ⊎ (before step i s ≡ before step i t)
+        → take (u * m) (drop (u * i) (openUnits step n s)) ≡ take (u * m) (drop (u * i) (openUnits step n t))
+    open-alike i m n h e b =
+        grown-alike (take-grown u (drop (u * i) (openUnits step n s))) (take-grown u (drop (u * i) (openUnits step n t))) m
+        (λ k l q. unit-drop u i k (openUnits step n s) ∙ unit-open step z s (i + k) n (omega (arith, l))
+        ∙ unit-alike i k (λ j g. e j (omega (arith, g, l))) b
+        ∙ sym (unit-drop u i k (openUnits step n t) ∙ unit-open step z t (i + k) n (omega (arith, l))))
+
+    -- bytes a up to b, where the units that they meet agree
+    pub stretch-meets : (n a b : ℕ) → a < b → b ≤ u * n → ((k : ℕ) → u * k < b → a < u * k + u → unit u k s ≡ unit u k t)
+        → Starts step (a / u) ⊎ (before step (a / u) s ≡ before step (a / u) t)
+        → take (b - a) (drop a (openUnits step n s)) ≡ take (b - a) (drop a (openUnits step n t))
+    stretch-meets n a b h hb e start =
+        let i : ℕ = a / u in
+        let l : ℕ = (b - 1) / u in
+        let m : ℕ = suc l - i in
+        let first : u * i ≤ a = mul-div-le a u in
+        let past : a < u * (i + 1) = lt-mul-div-succ a (z .some) in
+        let last : u * l ≤ b - 1 = mul-div-le (b - 1) u in
+        let end : b - 1 < u * (l + 1) = lt-mul-div-succ (b - 1) (z .some) in
+        let order : i ≤ l = le-div-iff-mul-le (z .some) .1 (omega arith) in
+        let within : l < n = div-lt-iff-lt-mul (z .some) .1 (omega arith) in
+        let all : i + m ≡ suc l = omega arith in
+        let reach : (j : ℕ) → j < m → u * (i + j) ≤ u * l = λ j g. mul-le-mul-left u (omega (arith, g)) in
+        let same = open-alike i m n (omega arith) (λ j g. e (i + j) (omega (arith, reach j g)) (omega arith)) start in
+        part-units u i m a b (openUnits step n s) first (omega arith) (rw all (omega arith))
+        ∙ ap (λ (x : List ℕ). take (b - a) (drop (a - u * i) x)) same
+        ∙ sym (part-units u i m a b (openUnits step n t) first (omega arith) (rw all (omega arith)))

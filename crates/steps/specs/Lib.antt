@@ -1,0 +1,4 @@
+pub mod Stream
+pub mod Steps
+pub mod Ecb
+pub mod Feeding
