@@ -29,7 +29,7 @@ static const char *words(unsigned answer) {
 }
 
 /* A stream of the compound file, in memory that is never null. */
-static guint8 *stream(GsfInfile *book, const char *name, gsize *size) {
+static guint8 *read_stream(GsfInfile *book, const char *name, gsize *size) {
     GsfInput *in = gsf_infile_child_by_name(book, name);
     if (in == NULL) stop(name, "no such stream");
     *size = (gsize)gsf_input_size(in);
@@ -62,8 +62,8 @@ int main(int count, char **argv) {
     GsfInput *file = gsf_input_stdio_new(argv[1], &error);
     GsfInfile *book = file == NULL ? NULL : gsf_infile_msole_new(file, &error);
     if (book == NULL) stop(argv[1], error != NULL ? error->message : "no compound file");
-    gsize info_size, package_size;
-    guint8 *info = stream(book, "EncryptionInfo", &info_size), *package = stream(book, "EncryptedPackage", &package_size);
+    gsize info_size, stream_size;
+    guint8 *info = read_stream(book, "EncryptionInfo", &info_size), *stream = read_stream(book, "EncryptedPackage", &stream_size);
 
     char *typed;
     if (count == 2) typed = ask();
@@ -73,9 +73,9 @@ int main(int count, char **argv) {
     gunichar2 *password = g_utf8_to_utf16(typed, -1, NULL, &units, &error);
     if (password == NULL) stop("password", error->message);
 
-    guint8 *out = g_try_malloc(package_size + 1);
+    guint8 *out = g_try_malloc(stream_size + 1);
     if (out == NULL) stop("EncryptedPackage", "too large for the memory");
-    uint64_t word = ropeshadow_open(info, info_size, password, (size_t)units, package, package_size, out, package_size);
+    uint64_t word = ropeshadow_open(info, info_size, password, (size_t)units, stream, stream_size, out, stream_size);
     unsigned answer = ROPESHADOW_ANSWER(word);
     if (answer != ROPESHADOW_DONE) {
         fprintf(stderr, "unlock: %s: %s (answer %u)\n", argv[1], words(answer), answer);

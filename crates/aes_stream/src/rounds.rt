@@ -13,9 +13,7 @@ pub fn key(w: &[u8; 240], n: usize) -> [u8; 16]
     requires { ⌜ (n ≤ 14) × (length (now w) ≡ 240) ⌝ }
     ensures { λ r. ⌜ r ≡ Cipher.roundKey (now (w .entry)) n ⌝ }
 {
-    let mut k = [0u8; 16];
-    octets::copy(w, 16 * n, 16, &mut k, 0);
-    k
+    octets::sixteen(w, 16 * n)
 }
 
 // A column substituted and mixed, with the key's four bytes at `at` added: they come first, so that the next round waits for one sum

@@ -1,13 +1,13 @@
 -- A rule is broken or holds, so the answer is that of the first that is broken, by induction over the list. Assumes nothing.
-use mathlib.Core.Path.{_≡_, refl, sym, ap, _∙_}
+use mathlib.Core.Path.{_≡_, refl, sym, ap, subst, _∙_}
 use mathlib.Core.Logic.{_⊎_, inl, inr, _↔_}
 use mathlib.Core.Bool.{Bool, true, false, cond, _&&_}
 use mathlib.Core.List.{List, [], _∷_, _++_}
-use Prim.Native.Nat.{ℕ, _<_}
+use Prim.Native.Nat.{ℕ, zero, suc, _≤_, _<_}
 use native.Mathlib.Omega.{arith}
-use borrow.Author.Tests.{eqb-true, eqb-false}
+use borrow.Author.Tests.{eqb-true, eqb-false, ltb-false, le-ltb}
 use lib.Dec.{T, ltb, eqb, ltb→lt}
-use Rattle.answers.specs.Rules.{Rule, rule, firstOf, AllHold, First, numbered, testOf, numbers, OneOf}
+use Rattle.answers.specs.Rules.{Rule, rule, firstOf, after, roomRules, AllHold, First, numbered, testOf, numbers, OneOf}
 
 -- a test is true or false
 pub either : (b : Bool) → (b ≡ true) ⊎ (b ≡ false)
@@ -18,6 +18,28 @@ either false = inr refl
 pub both : (a b : Bool) → T (a && b) → T a × T b
 both true b h = (tt, h)
 both false b h = absurd h
+
+pub pass : (a b : Bool) → T a → T b → T (a && b)
+pass true b h k = k
+pass false b h k = absurd h
+
+-- ---- one answer after another
+
+pub after-none : (n rest : ℕ) → n ≡ 0 → after n rest ≡ rest
+unfolding after
+after-none n rest e = rw e
+
+pub after-some : (n rest : ℕ) → (n ≡ 0 → ⊥) → after n rest ≡ n
+unfolding after
+after-some zero rest h = absurd (h refl)
+after-some (suc n) rest h = refl
+
+pub after-zero : (n rest : ℕ) → after n rest ≡ 0 → (n ≡ 0) × (rest ≡ 0)
+unfolding after
+after-zero zero rest h = (refl, h)
+after-zero (suc n) rest h = absurd (omega (arith, h))
+
+-- ---- the first that is broken
 
 module _ (r : Rule) (rs : List Rule) where
   pub broke : r .broken ≡ true → firstOf (r ∷ rs) ≡ r .number
@@ -100,13 +122,26 @@ stop (r ∷ rs) ts h =
       | inr e ↦ held r (rs ++ ts) e ∙ stop rs ts (λ z. h (held r rs e ∙ z)) ∙ sym (held r rs e)
     ]
 
--- so where both together answer 0 each of them does
+-- so the answer of both is the first's, or the second's after it
+pub in-turn : (rs ts : List Rule) → T (numbered rs) → firstOf (rs ++ ts) ≡ after (firstOf rs) (firstOf ts)
+in-turn rs ts t =
+    elim (either (eqb (firstOf rs) 0)) [
+      | inl e ↦ let z : firstOf rs ≡ 0 = eqb-true _ _ e in then rs ts t z ∙ sym (after-none (firstOf rs) (firstOf ts) z)
+      | inr e ↦ let n : firstOf rs ≡ 0 → ⊥ = eqb-false _ _ e in stop rs ts n ∙ sym (after-some (firstOf rs) (firstOf ts) n)
+    ]
+
+-- where both together answer 0 each of them does
 pub both-zero : (rs ts : List Rule) → T (numbered rs) → firstOf (rs ++ ts) ≡ 0 → (firstOf rs ≡ 0) × (firstOf ts ≡ 0)
 both-zero rs ts t h =
     elim (either (eqb (firstOf rs) 0)) [
       | inl e ↦ let z : firstOf rs ≡ 0 = eqb-true _ _ e in (z, sym (then rs ts t z) ∙ h)
       | inr e ↦ let n : firstOf rs ≡ 0 → ⊥ = eqb-false _ _ e in absurd (n (sym (stop rs ts n) ∙ h))
     ]
+
+-- lists of numbers above 0 stay so end to end
+pub both-numbered : (rs ts : List Rule) → T (numbered rs) → T (numbered ts) → T (numbered (rs ++ ts))
+both-numbered [] ts t u = u
+both-numbered (r ∷ rs) ts t u = let a = both (ltb 0 (r .number)) (numbered rs) t in pass (ltb 0 (r .number)) (numbered (rs ++ ts)) (a .0) (both-numbered rs ts (a .1) u)
 
 -- lists end to end hold exactly where both do
 pub both-hold : (rs ts : List Rule) → AllHold (rs ++ ts) ↔ (AllHold rs × AllHold ts)
@@ -128,3 +163,29 @@ listed (r ∷ rs) =
       | inl e ↦ inr (inl (broke r rs e))
       | inr e ↦ rw (held r rs e) (one-more (firstOf rs) (r .number) (numbers rs) (listed rs))
     ]
+
+pub listed-in : (rs : List Rule) (ns : List ℕ) → numbers rs ≡ ns → OneOf (0 ∷ ns) (firstOf rs)
+listed-in rs ns e = subst (λ (ms : List ℕ). OneOf (0 ∷ ms) (firstOf rs)) e (listed rs)
+
+-- lists end to end have the numbers of both
+pub numbers-both : (rs ts : List Rule) → numbers (rs ++ ts) ≡ numbers rs ++ numbers ts
+numbers-both [] ts = refl
+numbers-both (r ∷ rs) ts = ap (_∷_ (r .number)) (numbers-both rs ts)
+
+-- ---- the rule on room
+
+pub room-numbered : (room size : ℕ) → T (numbered (roomRules room size))
+unfolding roomRules
+room-numbered room size = tt
+
+pub room-numbers : (room size : ℕ) → numbers (roomRules room size) ≡ 16 ∷ []
+unfolding roomRules
+room-numbers room size = refl
+
+-- it holds exactly where the room is no less
+pub roomy : (room size : ℕ) → (firstOf (roomRules room size) ≡ 0) ↔ (size ≤ room)
+unfolding roomRules
+roomy room size = (
+  λ h. ltb-false room size (to-none (roomRules room size) tt h .0),
+  λ h. of-none (roomRules room size) (le-ltb room size h, tt),
+)

@@ -1,3 +1,5 @@
--- `Laws`: what an answer says of the rules, and what the rules say of the answer. `Rows`: proofs one after the other.
+-- `Laws`: what an answer says of the rules, and what the rules say of the answer. `Endings`: what a call leaves. `Rows`: proofs one after
+-- the other.
 pub mod Laws
+pub mod Endings
 pub mod Rows

@@ -4,7 +4,7 @@ use mathlib.Core.Path.{_≡_}
 use mathlib.Core.Logic.{_⊎_}
 use mathlib.Core.Bool.{Bool, true, false, cond, _&&_}
 use mathlib.Core.List.{List, [], _∷_, _++_}
-use Prim.Native.Nat.{ℕ}
+use Prim.Native.Nat.{ℕ, zero, suc}
 use lib.Dec.{ltb, eqb}
 
 -- a reply's number, and whether what it is given for is the case
@@ -19,6 +19,15 @@ rule n b = record { number = n; broken = b }
 unfoldable pub firstOf : List Rule → ℕ
 firstOf [] = 0
 firstOf (r ∷ rs) = cond (r .broken) (r .number) (firstOf rs)
+
+-- the answer of a list of rules and then another: the first's where it is not 0
+unfoldable pub after : (answer rest : ℕ) → ℕ
+after zero rest = rest
+after (suc n) rest = suc n
+
+-- the rule on room (no. 16): the output is shorter than what is to be written
+unfoldable pub roomRules : (room size : ℕ) → List Rule
+roomRules room size = rule 16 (ltb room size) ∷ []
 
 -- no rule is broken
 abbrev pub AllHold : List Rule → Type 0

@@ -1,7 +1,14 @@
-// The numbered replies of 01 by name. What an entry answers is its first broken rule's number, or DONE where every rule holds:
-// specs/Rules.antt has the ordered list, proofs/Laws.antt what follows from an answer.
+// The numbered replies of 01 by name, which of them a call gives, and how a call with an output ends.
+//
+// What an entry answers is its first broken rule's number, or DONE where every rule holds: specs/Rules.antt has the ordered list,
+// specs/Ended.antt what a call leaves by its answer, proofs/ what follows from either.
 ghost use mathlib.Core.Path.{_≡_};
 ghost use mathlib.Core.Bool.{cond};
+ghost use lib.ListN.{take};
+ghost use Rattle.octets.specs.Octets.{zeroFrom};
+ghost use Rattle.answers.specs.Rules.{firstOf, after, roomRules};
+ghost use Rattle.answers.specs.Ended as Ended;
+ghost use Rattle.answers.specs.Ended.{left, reply};
 
 // No rule is broken.
 pub const DONE: u16 = 0;
@@ -51,4 +58,42 @@ pub fn first(broken: bool, number: u16, rest: u16) -> u16
         return number;
     }
     rest
+}
+
+// The answer of two lists of rules, one after the other: the first's where it refuses, else the second's.
+pub fn then(answer: u16, rest: u16) -> u16
+    ensures { λ r. ⌜ r ≡ after answer rest ⌝ }
+{
+    first(answer != DONE, answer, rest)
+}
+
+// The rule on room: 16 where an output of `room` bytes is shorter than what is to be written.
+pub fn room_answer(room: usize, size: usize) -> u16
+    ensures { λ r. ⌜ r ≡ firstOf (roomRules room size) ⌝ }
+{
+    first(room < size, ROOM, DONE)
+}
+
+// What a call with an output answers: 0 beside the number of bytes written, or the first broken rule's number beside 0.
+pub struct Reply {
+    pub answer: u16,
+    pub size: usize,
+}
+
+// The reply of a call that has written `size` bytes, and zeros after them.
+fn done(size: usize, out: &mut [u8]) -> Reply
+    ensures { λ r. ⌜ (r ≡ reply 0 size) × (now (out .exit) ≡ zeroFrom size (now (out .entry))) ⌝ }
+{
+    octets::zero_from(out, size);
+    Reply { answer: DONE, size }
+}
+
+// How a call ends: with answer 0 after it has written `size` bytes; with any other size 0, and out as it is.
+pub fn ended(answer: u16, size: usize, out: &mut [u8]) -> Reply
+    ensures { λ r. ⌜ left r (now (out .exit)) ≡ Ended.ended answer size (take size (now (out .entry))) (now (out .entry)) ⌝ }
+{
+    if answer != DONE {
+        return Reply { answer, size: 0 };
+    }
+    done(size, out)
 }

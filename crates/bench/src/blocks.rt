@@ -6,15 +6,6 @@ ghost use Rattle.fips197.specs.Tables.{sbox, invSbox};
 ghost use Rattle.fips197.specs.Cipher.{invMixColumns};
 ghost use Rattle.aes_stream.specs.Words.{Forward, Inverse};
 
-// The block at `at`.
-fn block(s: &[u8], at: usize) -> [u8; 16]
-    requires { ⌜ at + 16 ≤ length (now s) ⌝ }
-{
-    let mut b = [0u8; 16];
-    octets::copy(s, at, 16, &mut b, 0);
-    b
-}
-
 // A block laid at `at`.
 fn put(s: &mut [u8], at: usize, b: [u8; 16])
     requires { ⌜ at + 16 ≤ length (now s) ⌝ }
@@ -28,7 +19,7 @@ pub fn encrypt(w: &[u8; 240], rounds: usize, table: &[u8; 256], words: &[u32; 25
     let n = s.len() / 16;
     let mut i = 0;
     while i < n {
-        let b = aes_stream::cipher(w, rounds, table, words, block(s, 16 * i));
+        let b = aes_stream::cipher(w, rounds, table, words, octets::sixteen(s, 16 * i));
         put(s, 16 * i, b);
         i += 1;
     }
@@ -48,7 +39,7 @@ pub fn decrypt(
     let n = s.len() / 16;
     let mut i = 0;
     while i < n {
-        let b = aes_stream::inv_cipher(w, mixed, rounds, table, words, block(s, 16 * i));
+        let b = aes_stream::inv_cipher(w, mixed, rounds, table, words, octets::sixteen(s, 16 * i));
         put(s, 16 * i, b);
         i += 1;
     }

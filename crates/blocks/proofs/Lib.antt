@@ -1,6 +1,3 @@
--- `Ecb`: block i of a result is the operation on block i. `Reversible`: so ECB over a reversible block operation is reversible.
--- `Aes`: AES is such an operation. `Loops`: a turn of a loop that lays block after block.
-pub mod Ecb
-pub mod Reversible
+-- `Aes`: AES is a step that undoes itself. `Loops`: a block over the end of a list.
 pub mod Aes
 mod Loops

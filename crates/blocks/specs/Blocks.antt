@@ -1,35 +1,21 @@
--- A stream as blocks of sixteen bytes, each under the same operation (000 section 7: AES in ECB mode). Assumes nothing.
-use mathlib.Core.Bool.{Bool}
-use mathlib.Core.List.{List, [], _++_}
-use Prim.Native.Nat.{ℕ, zero, suc, _*_, _/_, _%_}
-use lib.Dec.{eqb}
-use lib.ListN.{length, take, drop}
+-- AES as the step of a stream: each block of sixteen bytes by itself (000 section 7: ECB mode). Assumes nothing.
+use mathlib.Core.List.{List}
+use Prim.Native.Nat.{ℕ}
+use lib.ListN.{replicate}
 use Rattle.fips197.specs.Cipher.{roundKey, cipher, invCipher}
-use Rattle.aes.specs.declared.Expanded.{Expanded}
+use Rattle.aes.specs.Aes.{encryption, decryption}
+use Rattle.steps.specs.Steps.{Step}
+use Rattle.steps.specs.Ecb.{ecb}
+use Rattle.blocks.specs.declared.Place.{Place}
 
--- the lengths of one block, and of whole blocks
-unfoldable pub single : ℕ → Bool
-single n = eqb n 16
+-- under the round keys of an expanded key, for so many rounds
+unfoldable pub ecbBy : (w : List ℕ) (rounds : ℕ) → Step
+ecbBy w rounds = ecb (cipher (roundKey w) rounds) (invCipher (roundKey w) rounds)
 
-unfoldable pub whole : ℕ → Bool
-whole n = eqb (n % 16) 0
+-- under a key
+unfoldable pub ecbUnder : (key : List ℕ) → Step
+ecbUnder key = ecb (encryption key) (decryption key)
 
--- block i of a stream
-unfoldable pub block : ℕ → List ℕ → List ℕ
-block i s = take 16 (drop (16 * i) s)
-
--- f on each of the first n blocks
-unfoldable pub blocks : (List ℕ → List ℕ) → ℕ → List ℕ → List ℕ
-blocks f zero s = []
-blocks f (suc n) s = blocks f n s ++ f (block n s)
-
--- f on every block
-unfoldable pub ecb : (List ℕ → List ℕ) → List ℕ → List ℕ
-ecb f s = blocks f (length s / 16) s
-
--- AES on a block under an expanded key, there and back
-unfoldable pub encrypting : Expanded → List ℕ → List ℕ
-encrypting e b = cipher (roundKey (e .bytes)) (e .rounds) b
-
-unfoldable pub decrypting : Expanded → List ℕ → List ℕ
-decrypting e b = invCipher (roundKey (e .bytes)) (e .rounds) b
+-- where a stream starts: at block 0, before which stand zeros
+abbrev pub streamStart : Place
+streamStart = record { number = 0; before = replicate 16 0 }

@@ -1,27 +1,35 @@
-// A stream of 16-byte blocks under AES in ECB mode (000 section 7), out of one lent slice into another.
+// A stream of 16-byte blocks under AES (000 section 7), out of one lent slice into another, from any of its blocks on.
+//
+//     blocks::decrypt(key, blocks::start(), &stream[8..], size, out);
 //
 // The key comes expanded. It is copied once a stream, the tables are laid once, and both are lent to each block. A contract says which
 // bytes of the output are written and with what; the rest of it is as it was.
 ghost use mathlib.Core.Path.{_≡_};
 ghost use mathlib.Core.List.{_++_};
-ghost use Prim.Native.Nat.{_+_, _*_, _/_, _%_, _<_, _≤_, min};
+ghost use Prim.Native.Nat.{_+_, _*_, _/_, _%_, _^_, _<_, _≤_, min};
 ghost use lib.ListN.{length, take, drop};
 ghost use lib.Seq.{paste};
+ghost use Rattle.steps.specs.Steps.{resumed, openAll, sealAll};
 ghost use Rattle.fips197.specs.Tables.{sbox, invSbox};
-ghost use Rattle.fips197.specs.Cipher.{invMixColumns, roundKey, cipher, invCipher};
+ghost use Rattle.fips197.specs.Cipher.{invMixColumns, cipher};
 ghost use Rattle.aes_stream.specs.Words.{Forward, Inverse};
-ghost use Rattle.blocks.specs.Blocks.{ecb, encrypting, decrypting};
+ghost use Rattle.blocks.specs.Blocks.{ecbBy};
+ghost use Rattle.blocks.specs.Blocks as Blocks;
 use aes::Expanded;
 use aes::tables;
 
-// The sixteen bytes of s at `at`.
-fn block(s: &[u8], at: usize) -> [u8; 16]
-    requires { ⌜ at + 16 ≤ length (now s) ⌝ }
-    ensures { λ r. ⌜ r ≡ take 16 (drop at (now (s .entry))) ⌝ }
+// Where a stream is taken up: the number of a block, and the cipher block before it.
+pub struct Place {
+    pub number: usize,
+    pub before: [u8; 16],
+}
+
+// Where a stream starts: at block 0, before which stand zeros.
+pub fn start() -> Place
+    ensures { λ r. ⌜ r ≡ Blocks.streamStart ⌝ }
 {
-    let mut b = [0u8; 16];
-    octets::copy(s, at, 16, &mut b, 0);
-    b
+    let before = [0u8; 16];
+    Place { number: 0, before }
 }
 
 // The sixteen bytes at `at` of s then filling.
@@ -31,7 +39,7 @@ fn filled_block(s: &[u8], filling: &[u8; 16], at: usize) -> [u8; 16]
 {
     let left = s.len() - at;
     if 16 <= left {
-        return block(s, at);
+        return octets::sixteen(s, at);
     }
     let mut b = [0u8; 16];
     octets::copy(s, at, left, &mut b, 0);
@@ -49,6 +57,23 @@ fn part(left: usize) -> usize
     16
 }
 
+// A block at its place, decrypted: each stands by itself, so that the place counts for nothing.
+fn open_block(
+    w: &[u8; 240],
+    mixed: &[u8; 240],
+    rounds: usize,
+    table: &[u8; 256],
+    words: &[u32; 256],
+    place: Place,
+    block: [u8; 16],
+) -> [u8; 16]
+    requires { ⌜ (0 < rounds) × (rounds ≤ 14) × (length (now w) ≡ 240) × (length (now mixed) ≡ 240) ⌝ }
+    requires { ⌜ (now mixed ≡ invMixColumns (now w)) × (now table ≡ invSbox) × Inverse (now words) ⌝ }
+    ensures { λ r. ⌜ r ≡ ecbBy (now (w .entry)) rounds .back (place .number) (place .before) block ⌝ }
+{
+    aes_stream::inv_cipher(w, mixed, rounds, table, words, block)
+}
+
 // `decrypt`, with the key and the tables lent.
 fn decrypt_with(
     w: &[u8; 240],
@@ -56,37 +81,71 @@ fn decrypt_with(
     rounds: usize,
     table: &[u8; 256],
     words: &[u32; 256],
+    place: Place,
     src: &[u8],
     size: usize,
     out: &mut [u8],
 )
     requires { ⌜ (0 < rounds) × (rounds ≤ 14) × (length (now w) ≡ 240) × (length (now mixed) ≡ 240) ⌝ }
     requires { ⌜ (now mixed ≡ invMixColumns (now w)) × (now table ≡ invSbox) × Inverse (now words) ⌝ }
-    requires { ⌜ (size ≤ 16 * (length (now src) / 16)) × (size ≤ length (now out)) ⌝ }
-    ensures { λ _. ⌜ now (out .exit) ≡ paste (now (out .entry)) 0 (ecb (invCipher (roundKey (now (w .entry))) rounds) (now (src .entry))) size ⌝ }
+    requires { ⌜ (size ≤ 16 * (length (now src) / 16)) × (size ≤ length (now out)) × (place .number + size < 2 ^ 64) ⌝ }
+    ensures { λ _. ⌜ now (out .exit) ≡ paste (now (out .entry)) 0 (openAll (resumed (place .number) (place .before) (ecbBy (now (w .entry)) rounds)) (now (src .entry))) size ⌝ }
 {
+    let mut before = place.before;
     let mut i = 0;
     while i < size {
         let n = part(size - i);
-        let sealed = block(src, i);
-        let plain = aes_stream::inv_cipher(w, mixed, rounds, table, words, sealed);
+        let sealed = octets::sixteen(src, i);
+        let here = Place {
+            number: place.number + i / 16,
+            before,
+        };
+        let plain = open_block(w, mixed, rounds, table, words, here, sealed);
         octets::copy(&plain, 0, n, out, i);
+        before = sealed;
         i += n;
     }
 }
 
-// The first `size` bytes of the blocks of src, decrypted, at the front of out. A last block of which less is wanted is cut.
-pub fn decrypt(key: Expanded, src: &[u8], size: usize, out: &mut [u8])
+// The first `size` bytes of the blocks of src, decrypted, at the front of out. The first of them is the one at the place. A last block of
+// which less is wanted is cut.
+pub fn decrypt(key: Expanded, place: Place, src: &[u8], size: usize, out: &mut [u8])
     requires { ⌜ (0 < key .rounds) × (key .rounds ≤ 14) ⌝ }
-    requires { ⌜ (size ≤ 16 * (length (now src) / 16)) × (size ≤ length (now out)) ⌝ }
-    ensures { λ _. ⌜ now (out .exit) ≡ paste (now (out .entry)) 0 (ecb (decrypting key) (now (src .entry))) size ⌝ }
+    requires { ⌜ (size ≤ 16 * (length (now src) / 16)) × (size ≤ length (now out)) × (place .number + size < 2 ^ 64) ⌝ }
+    ensures { λ _. ⌜ now (out .exit) ≡ paste (now (out .entry)) 0 (openAll (resumed (place .number) (place .before) (ecbBy (key .bytes) (key .rounds))) (now (src .entry))) size ⌝ }
 {
     let w = key.bytes;
     let table = tables::INV_SBOX;
     let shares = products::shares();
     let words = aes_stream::inverse(&table, &shares);
     let mixed = aes_stream::mixed(&w, &shares);
-    decrypt_with(&w, &mixed, key.rounds, &table, &words, src, size, out);
+    decrypt_with(
+        &w,
+        &mixed,
+        key.rounds,
+        &table,
+        &words,
+        place,
+        src,
+        size,
+        out,
+    );
+}
+
+// A block at its place, encrypted: each stands by itself, so that the place counts for nothing.
+fn seal_block(
+    w: &[u8; 240],
+    rounds: usize,
+    table: &[u8; 256],
+    words: &[u32; 256],
+    place: Place,
+    block: [u8; 16],
+) -> [u8; 16]
+    requires { ⌜ (0 < rounds) × (rounds ≤ 14) × (length (now w) ≡ 240) ⌝ }
+    requires { ⌜ (now table ≡ sbox) × Forward (now words) ⌝ }
+    ensures { λ r. ⌜ r ≡ ecbBy (now (w .entry)) rounds .there (place .number) (place .before) block ⌝ }
+{
+    aes_stream::cipher(w, rounds, table, words, block)
 }
 
 // `encrypt`, with the key, the tables and the filling lent.
@@ -95,7 +154,8 @@ fn encrypt_with(
     rounds: usize,
     table: &[u8; 256],
     words: &[u32; 256],
-    contents: &[u8],
+    place: Place,
+    src: &[u8],
     filling: &[u8; 16],
     size: usize,
     out: &mut [u8],
@@ -103,30 +163,37 @@ fn encrypt_with(
 )
     requires { ⌜ (0 < rounds) × (rounds ≤ 14) × (length (now w) ≡ 240) × (length (now filling) ≡ 16) ⌝ }
     requires { ⌜ (now table ≡ sbox) × Forward (now words) ⌝ }
-    requires { ⌜ (size % 16 ≡ 0) × (size ≤ length (now contents) + 16) × (at + size ≤ length (now out)) ⌝ }
-    ensures { λ _. ⌜ now (out .exit) ≡ paste (now (out .entry)) at (ecb (cipher (roundKey (now (w .entry))) rounds) (take size (now (contents .entry) ++ now (filling .entry)))) size ⌝ }
+    requires { ⌜ (size % 16 ≡ 0) × (size ≤ length (now src) + 16) × (at + size ≤ length (now out)) × (place .number + size < 2 ^ 64) ⌝ }
+    ensures { λ _. ⌜ now (out .exit) ≡ paste (now (out .entry)) at (sealAll (resumed (place .number) (place .before) (ecbBy (now (w .entry)) rounds)) (take size (now (src .entry) ++ now (filling .entry)))) size ⌝ }
 {
+    let mut before = place.before;
     let mut i = 0;
     while i < size {
-        let plain = filled_block(contents, filling, i);
-        let sealed = aes_stream::cipher(w, rounds, table, words, plain);
+        let plain = filled_block(src, filling, i);
+        let here = Place {
+            number: place.number + i / 16,
+            before,
+        };
+        let sealed = seal_block(w, rounds, table, words, here, plain);
         octets::copy(&sealed, 0, 16, out, at + i);
+        before = sealed;
         i += 16;
     }
 }
 
-// The first `size` bytes of contents then filling, whole blocks, encrypted at `at` of out.
+// The first `size` bytes of src then filling, whole blocks, encrypted at `at` of out. The first of them is the one at the place.
 pub fn encrypt(
     key: Expanded,
-    contents: &[u8],
+    place: Place,
+    src: &[u8],
     filling: [u8; 16],
     size: usize,
     out: &mut [u8],
     at: usize,
 )
     requires { ⌜ (0 < key .rounds) × (key .rounds ≤ 14) ⌝ }
-    requires { ⌜ (size % 16 ≡ 0) × (size ≤ length (now contents) + 16) × (at + size ≤ length (now out)) ⌝ }
-    ensures { λ _. ⌜ now (out .exit) ≡ paste (now (out .entry)) at (ecb (encrypting key) (take size (now (contents .entry) ++ filling))) size ⌝ }
+    requires { ⌜ (size % 16 ≡ 0) × (size ≤ length (now src) + 16) × (at + size ≤ length (now out)) × (place .number + size < 2 ^ 64) ⌝ }
+    ensures { λ _. ⌜ now (out .exit) ≡ paste (now (out .entry)) at (sealAll (resumed (place .number) (place .before) (ecbBy (key .bytes) (key .rounds))) (take size (now (src .entry) ++ filling))) size ⌝ }
 {
     let w = key.bytes;
     let table = tables::SBOX;
@@ -136,7 +203,8 @@ pub fn encrypt(
         key.rounds,
         &table,
         &words,
-        contents,
+        place,
+        src,
         &filling,
         size,
         out,

@@ -7,15 +7,17 @@ use Prim.Native.Nat.{ℕ, zero, suc, _+_, _*_, _/_, _%_, _^_, _<_}
 use lib.Dec.{ltb, eqb}
 use lib.ListN.{length, take}
 use Rattle.octets.specs.Octets.{leBytes}
+use Rattle.answers.specs.Ended as Ended
+use Rattle.answers.specs.declared.Reply as Told
 use Rattle.sha1.specs.Sha1 as Sha1
 use Rattle.aes.specs.Aes as Aes
 use Rattle.aes.specs.declared.Reply.{Reply}
 use Rattle.descriptor.specs.Info as Info
 use Rattle.descriptor.specs.declared.BitCount.{BitCount}
 use Rattle.descriptor.specs.declared.Descriptor.{Descriptor}
+use Rattle.password.specs.Lock.{Lock}
 use Rattle.password.specs.Verdict as Verdict
 use Rattle.sheet.specs.Sheet as Sheet
-use Rattle.sheet.specs.declared.Reply as Told
 use Rattle.writer.specs.Written as Written
 
 -- ---- how values cross
@@ -26,7 +28,7 @@ replyWord answer size = answer + 65536 * size
 
 -- and what it tells again: ROPESHADOW_ANSWER and ROPESHADOW_SIZE of the header
 unfoldable pub told : ℕ → Told.Reply
-told w = Sheet.reply (w % 65536) (w / 65536)
+told w = Ended.reply (w % 65536) (w / 65536)
 
 -- sixteen bytes of two numbers: the first eight, then the last, each low byte first
 unfoldable pub sixteen : ℕ → ℕ → List ℕ
@@ -49,26 +51,26 @@ unfoldable pub numberBytes : Descriptor → List ℕ
 numberBytes d =
     leBytes 2 (d .major)
     ++ leBytes 2 (d .minor)
-    ++ leBytes 4 (d .alg)
-    ++ leBytes 4 (d .key .0)
-    ++ leBytes 4 (d .place)
-    ++ leBytes 4 (d .name)
+    ++ leBytes 4 (d .«alg_id»)
+    ++ leBytes 4 (d .«key_size» .0)
+    ++ leBytes 4 (d .«name_place»)
+    ++ leBytes 4 (d .«name_length»)
 
 -- a descriptor in 84 bytes: its numbers, the salt, EncryptedVerifier, EncryptedVerifierHash
 unfoldable pub descriptorBytes : Descriptor → List ℕ
-descriptorBytes d = numberBytes d ++ d .salt ++ d .verifier ++ d .hash
+descriptorBytes d = numberBytes d ++ d .salt ++ d .«encrypted_verifier» ++ d .«encrypted_verifier_hash»
 
 -- a descriptor that these bytes hold: no field is too long
 pub record Crosses (d : Descriptor) : Type 0 where
   pub major : d .major < 2 ^ 16
   pub minor : d .minor < 2 ^ 16
-  pub alg : d .alg < 2 ^ 32
-  pub key : d .key .0 < 2 ^ 32
-  pub place : d .place < 2 ^ 32
-  pub name : d .name < 2 ^ 32
+  pub alg : d .«alg_id» < 2 ^ 32
+  pub key : d .«key_size» .0 < 2 ^ 32
+  pub place : d .«name_place» < 2 ^ 32
+  pub name : d .«name_length» < 2 ^ 32
   pub salt : length (d .salt) ≡ 16
-  pub verifier : length (d .verifier) ≡ 16
-  pub hash : length (d .hash) ≡ 32
+  pub verifier : length (d .«encrypted_verifier») ≡ 16
+  pub hash : length (d .«encrypted_verifier_hash») ≡ 32
 
 -- ---- what a call leaves
 
@@ -81,8 +83,8 @@ abbrev pub outcome : ℕ → List ℕ → Outcome
 outcome w o = record { word = w; out = o }
 
 -- what its caller has then: the reply that the number tells, and the out parameter
-abbrev pub readBack : Outcome → Sheet.Left
-readBack o = Sheet.left (told (o .word)) (o .out)
+abbrev pub readBack : Outcome → Ended.Left
+readBack o = Ended.left (told (o .word)) (o .out)
 
 -- by its answer: with 0 the size, and what is written; with any other size 0, and the out parameter as it was
 unfoldable pub outcomeBy : (answer size : ℕ) (value out : List ℕ) → Outcome
@@ -93,7 +95,7 @@ outcomeBy (suc n) size value out = outcome (replyWord (suc n) 0) out
 unfoldable pub blockOutcome : Reply → List ℕ → Outcome
 blockOutcome r out = outcomeBy (r .answer) 0 (r .block) out
 
-unfoldable pub sheetOutcome : Sheet.Left → List ℕ → Outcome
+unfoldable pub sheetOutcome : Ended.Left → List ℕ → Outcome
 sheetOutcome l out = outcomeBy (l .reply .answer) (l .reply .size) (l .out) out
 
 -- ---- the functions
@@ -114,16 +116,16 @@ unfoldable pub parseOutcome : (info out : List ℕ) → Outcome
 parseOutcome info out = outcomeBy (Info.parsed info .answer) 0 (descriptorBytes (Info.parsed info .fields)) out
 
 -- `ropeshadow_verdict`
-unfoldable pub verdictWord : (info password : List ℕ) → ℕ
-verdictWord info password = replyWord (Verdict.judged info password) 0
+unfoldable pub verdictWord : (lock : Lock) → ℕ
+verdictWord lock = replyWord (Verdict.judged lock) 0
 
 -- `ropeshadow_open`
-unfoldable pub openOutcome : (info password stream out : List ℕ) → Outcome
-openOutcome info password stream out = sheetOutcome (Sheet.opened info password stream out) out
+unfoldable pub openOutcome : (lock : Lock) (stream out : List ℕ) → Outcome
+openOutcome lock stream out = sheetOutcome (Sheet.opened lock stream out) out
 
 -- `ropeshadow_seal`, the filling in two numbers, the choice of an extra block in one
-unfoldable pub sealOutcome : (info password pack : List ℕ) (low high extra : ℕ) (out : List ℕ) → Outcome
-sealOutcome info password pack low high extra out = sheetOutcome (Sheet.sealed info password pack (sixteen low high) (chosen extra) out) out
+unfoldable pub sealOutcome : (lock : Lock) («package» : List ℕ) (low high extra : ℕ) (out : List ℕ) → Outcome
+sealOutcome lock «package» low high extra out = sheetOutcome (Sheet.sealed lock «package» (sixteen low high) (chosen extra) out) out
 
 -- `ropeshadow_write_info`, salt, verifier and filling in two numbers each
 unfoldable pub writeOutcome : (bits : ℕ) (password name : List ℕ) (saltLow saltHigh verifierLow verifierHigh fillingLow fillingHigh : ℕ) (out : List ℕ) → Outcome

@@ -11,10 +11,10 @@ fn numbers(d: Descriptor) -> [u8; 20]
     let mut b = [0u8; 20];
     octets::put_le16(&mut b, 0, d.major);
     octets::put_le16(&mut b, 2, d.minor);
-    octets::put_le32(&mut b, 4, d.alg);
-    octets::put_le32(&mut b, 8, d.key.0 as u32);
-    octets::put_le32(&mut b, 12, d.place as u32);
-    octets::put_le32(&mut b, 16, d.name as u32);
+    octets::put_le32(&mut b, 4, d.alg_id);
+    octets::put_le32(&mut b, 8, d.key_size.0 as u32);
+    octets::put_le32(&mut b, 12, d.name_place as u32);
+    octets::put_le32(&mut b, 16, d.name_length as u32);
     b
 }
 
@@ -25,8 +25,8 @@ pub fn bytes(d: Descriptor) -> [u8; 84]
 {
     let n = numbers(d);
     let salt = d.salt;
-    let verifier = d.verifier;
-    let hash = d.hash;
+    let verifier = d.encrypted_verifier;
+    let hash = d.encrypted_verifier_hash;
     let mut b = [0u8; 84];
     octets::copy(&n, 0, 20, &mut b, 0);
     octets::copy(&salt, 0, 16, &mut b, 20);

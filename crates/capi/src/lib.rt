@@ -12,6 +12,7 @@
 //
 // Nothing checks what C passes: include/ropeshadow.h has what a caller owes.
 ghost use mathlib.Core.Path.{_≡_};
+ghost use Rattle.password.specs.Lock.{lockOf};
 ghost use Rattle.capi.specs.Capi as Capi;
 ghost use Rattle.capi.specs.Capi.{outcome};
 
@@ -80,7 +81,7 @@ pub extern "C" fn ropeshadow_parse(info: &[u8], out: &mut [u8; 84]) -> u64
 // The verdict on a password.
 #[no_mangle]
 pub extern "C" fn ropeshadow_verdict(info: &[u8], password: &[u16]) -> u64
-    ensures { λ r. ⌜ r ≡ Capi.verdictWord (now (info .entry)) (now (password .entry)) ⌝ }
+    ensures { λ r. ⌜ r ≡ Capi.verdictWord (lockOf (now (info .entry)) (now (password .entry))) ⌝ }
 {
     word(password::verdict(info, password), 0)
 }
@@ -93,7 +94,7 @@ pub extern "C" fn ropeshadow_open(
     stream: &[u8],
     out: &mut [u8],
 ) -> u64
-    ensures { λ r. ⌜ outcome r (now (out .exit)) ≡ Capi.openOutcome (now (info .entry)) (now (password .entry)) (now (stream .entry)) (now (out .entry)) ⌝ }
+    ensures { λ r. ⌜ outcome r (now (out .exit)) ≡ Capi.openOutcome (lockOf (now (info .entry)) (now (password .entry))) (now (stream .entry)) (now (out .entry)) ⌝ }
 {
     let r = sheet::open(info, password, stream, out);
     word(r.answer, r.size)
@@ -104,16 +105,16 @@ pub extern "C" fn ropeshadow_open(
 pub extern "C" fn ropeshadow_seal(
     info: &[u8],
     password: &[u16],
-    contents: &[u8],
+    package: &[u8],
     low: u64,
     high: u64,
     extra: u64,
     out: &mut [u8],
 ) -> u64
-    ensures { λ r. ⌜ outcome r (now (out .exit)) ≡ Capi.sealOutcome (now (info .entry)) (now (password .entry)) (now (contents .entry)) low high extra (now (out .entry)) ⌝ }
+    ensures { λ r. ⌜ outcome r (now (out .exit)) ≡ Capi.sealOutcome (lockOf (now (info .entry)) (now (password .entry))) (now («package» .entry)) low high extra (now (out .entry)) ⌝ }
 {
     let filling = sixteen(low, high);
-    let r = sheet::seal(info, password, contents, filling, extra != 0, out);
+    let r = sheet::seal(info, password, package, filling, extra != 0, out);
     word(r.answer, r.size)
 }
 

@@ -19,11 +19,11 @@ fn parse(what: &[u8], info: &[u8]) {
     lines::text(b": answer ");
     lines::number(p.answer as u64);
     lines::text(b" name ");
-    lines::number(d.place as u64);
+    lines::number(d.name_place as u64);
     lines::text(b" ");
-    lines::number(d.name as u64);
+    lines::number(d.name_length as u64);
     lines::text(b" key ");
-    lines::number(d.key.0 as u64);
+    lines::number(d.key_size.0 as u64);
     lines::text(b"\n");
 }
 

@@ -1,7 +1,7 @@
 // Opening and sealing: there and back under each key size, each reply, and the ciphertext of 000 8.1. Every buffer is full of a5
 // before the call.
 // A reply and the whole buffer after it, a long one by its hash.
-pub fn left(reply: sheet::Reply, out: &[u8]) {
+pub fn left(reply: answers::Reply, out: &[u8]) {
     lines::text(b": answer ");
     lines::number(reply.answer as u64);
     lines::text(b" size ");
@@ -22,12 +22,12 @@ pub fn seal(
     what: &[u8],
     info: &[u8],
     password: &[u16],
-    contents: &[u8],
+    package: &[u8],
     extra: bool,
     out: &mut [u8],
 ) -> usize {
     let filling = *b"\xf0\xf1\xf2\xf3\xf4\xf5\xf6\xf7\xf8\xf9\xfa\xfb\xfc\xfd\xfe\xff";
-    let r = sheet::seal(info, password, contents, filling, extra, out);
+    let r = sheet::seal(info, password, package, filling, extra, out);
     lines::text(b"seal ");
     lines::text(what);
     left(r, out);
@@ -42,9 +42,9 @@ pub fn open(what: &[u8], info: &[u8], password: &[u16], stream: &[u8], out: &mut
 }
 
 // There and back; `stream` and `out` are the two buffers.
-fn trip(what: &[u8], info: &[u8], contents: &[u8], extra: bool, stream: &mut [u8], out: &mut [u8]) {
+fn trip(what: &[u8], info: &[u8], package: &[u8], extra: bool, stream: &mut [u8], out: &mut [u8]) {
     let password = samples::password();
-    let size = seal(what, info, &password, contents, extra, stream);
+    let size = seal(what, info, &password, package, extra, stream);
     open(what, info, &password, samples::front(stream, size), out);
 }
 

@@ -1,27 +1,27 @@
 -- A stream that is laid out from its fields gives each of them back, wherever HeaderSize tells where EncryptionVerifier begins and no
 -- number is too large for its place. Assumes nothing.
-use mathlib.Core.Path.{_≡_, refl, sym, ap, _∙_}
+use mathlib.Core.Path.{_≡_, refl, ap, _∙_}
 use mathlib.Core.Bool.{false, not}
 use mathlib.Core.Logic.{inl, inr}
-use mathlib.Core.List.{List, [], _∷_, _++_, append-nil, append-assoc}
-use Prim.Native.Nat.{ℕ, _+_, _-_, _*_, _%_, _^_, _≤_, _<_}
-use native.Mathlib.Numerals.{add-one}
+use mathlib.Core.List.{List, [], _∷_, _++_, flatMap, append-assoc}
+use Prim.Native.Nat.{ℕ, _+_, _-_, _%_, _^_, _≤_, _<_}
 use native.Mathlib.Omega.{arith}
 use borrow.Author.Tests.{eq-eqb, le-ltb}
-use lib.ListN.{length, getD, take, drop, length-append}
-use lib.Seq.{take-suc, take-at, drop-at, drop-append-add, take-all}
+use lib.ListN.{length, take, drop, length-append}
+use lib.Seq.{take-at, drop-at, drop-append-add, take-all}
 use Rattle.octets.specs.Octets.{Bytes, leAt, le, leBytes}
-use Rattle.octets.proofs.Below.{append-below, leBytes-bytes, nil-bytes}
+use Rattle.octets.proofs.Below.{append-below, leBytes-bytes}
 use Rattle.octets.proofs.Numbers.{length-leBytes, le-leBytes, leAt-here}
+use Rattle.octets.proofs.Each.{each-bytes}
 use Rattle.answers.specs.Rules.{OneOf}
 use Rattle.answers.proofs.Laws.{none-broken}
 use Rattle.answers.proofs.Rows.{_and_}
 use Rattle.descriptor.specs.Info as stream
-use Rattle.descriptor.specs.LaidOut.{Fields, fourBytesEach, front, verifier, laidOut, says}
+use Rattle.descriptor.specs.LaidOut.{Fields, front, verifier, laidOut, says}
 use Rattle.descriptor.proofs.Laws.{Admitted, info-numbered}
 
 -- the fields are as long as they have to be, and HeaderSize and SizeExtra tell how long the name and the opaque bytes are
-pub record Sized (f : Fields) : Type 0 where
+pub record Measured (f : Fields) : Type 0 where
   pub header : f .headerSize ≡ 32 + (length (f .name) + length (f .opaque))
   pub extra : f .sizeExtra ≡ length (f .opaque)
   pub salt : length (f .salt) ≡ 16
@@ -63,27 +63,6 @@ version-good major (inr (inr (inr e))) = absurd e
 past : (x s : List ℕ) (n m : ℕ) → length x ≡ n → drop (n + m) (x ++ s) ≡ drop m s
 past x s n m e = rw (← e) (drop-append-add x s m)
 
--- ---- numbers in four bytes each
-
-pub length-numbers : (ns : List ℕ) → length (fourBytesEach ns) ≡ 4 * length ns
-unfolding fourBytesEach
-length-numbers [] = refl
-length-numbers (n ∷ ns) = simp (length-append, length-leBytes) (omega (arith, length-numbers ns))
-
-numbers-append : (x y : List ℕ) → fourBytesEach (x ++ y) ≡ fourBytesEach x ++ fourBytesEach y
-unfolding fourBytesEach
-numbers-append [] y = refl
-numbers-append (n ∷ x) y = rw (numbers-append x y) (sym (append-assoc (leBytes 4 n) (fourBytesEach x) (fourBytesEach y)))
-
-pub numbers-more : (ns : List ℕ) (i : ℕ) → i < length ns → fourBytesEach (take (i + 1) ns) ≡ fourBytesEach (take i ns) ++ leBytes 4 (getD ns i 0)
-unfolding fourBytesEach
-numbers-more ns i h = rw (add-one, take-suc ns i 0 h) (numbers-append (take i ns) (getD ns i 0 ∷ []) ∙ rw append-nil)
-
-numbers-bytes : (ns : List ℕ) → Bytes (fourBytesEach ns)
-unfolding fourBytesEach
-numbers-bytes [] = nil-bytes
-numbers-bytes (n ∷ ns) = append-below (leBytes 4 n) (fourBytesEach ns) (leBytes-bytes 4 n) (numbers-bytes ns)
-
 -- ---- the stream
 
 module _ (f : Fields) where
@@ -91,14 +70,14 @@ module _ (f : Fields) where
   s = laidOut f
 
   length-front : length (front f) ≡ 44
-  unfolding front fourBytesEach leBytes
+  unfolding front flatMap leBytes
   length-front = refl
 
   pub laid-bytes : Bytes (f .name) → Bytes (f .opaque) → Bytes (f .salt) → Bytes (f .encryptedVerifier) → Bytes (f .encryptedVerifierHash) → Bytes s
   unfolding laidOut front verifier
   laid-bytes n o b v h =
       let versions = append-below _ _ (leBytes-bytes 2 (f .major)) (leBytes-bytes 2 (f .minor)) in
-      let header = append-below _ _ (append-below _ _ (append-below _ _ versions (numbers-bytes _)) n) o in
+      let header = append-below _ _ (append-below _ _ (append-below _ _ versions (each-bytes (leBytes 4) (leBytes-bytes 4) _)) n) o in
       let salts = append-below _ _ (append-below _ _ (leBytes-bytes 4 (f .saltSize)) b) v in
       append-below _ _ header (append-below _ _ (append-below _ _ salts (leBytes-bytes 4 (f .verifierHashSize))) h)
 
@@ -114,7 +93,7 @@ module _ (f : Fields) where
     pub key : stream.keySize s ≡ f .keySize
 
   pub reads : Held f → Reads
-  unfolding laidOut front fourBytesEach leAt leBytes stream.major stream.minor stream.headerSize stream.sizeExtra stream.algId stream.algIdHash stream.keySize
+  unfolding laidOut front flatMap leAt leBytes stream.major stream.minor stream.headerSize stream.sizeExtra stream.algId stream.algIdHash stream.keySize
   reads h =
       record {
         major = le-leBytes 2 (f .major) (h .major);
@@ -136,7 +115,7 @@ module _ (f : Fields) where
 
   -- ---- what follows the name and the opaque bytes
 
-  module _ (z : Sized f) where
+  module _ (z : Measured f) where
     before : List ℕ
     before = front f ++ f .name ++ f .opaque
 
@@ -217,7 +196,7 @@ module _ (f : Fields) where
           rw (reads h .major, reads h .minor, reads h .alg, reads h .key, reads h .header, reads h .extra, salt-is, verifier-is, hash-is, name-long)
 
       pub laid-admitted : Good f → Admitted s
-      unfolding stream.infoRules stream.badHeaderSize
+      unfolding stream.infoRules stream.numbersOf stream.badHeaderSize
       laid-admitted g =
           none-broken (stream.infoRules s) (info-numbered s) .1
           (le-ltb (length s) 12 (omega (arith, length-laid))

@@ -7,6 +7,7 @@ use lib.Dec.{ltb, eqb}
 use lib.ListN.{length, take, drop, replicate}
 use Rattle.octets.specs.Octets.{leAt}
 use Rattle.answers.specs.Rules.{Rule, rule, firstOf}
+use Rattle.descriptor.specs.declared.Numbers.{Numbers}
 use Rattle.descriptor.specs.declared.Suite.{Suite}
 use Rattle.descriptor.specs.declared.Descriptor.{Descriptor}
 use Rattle.descriptor.specs.declared.Parsed.{Parsed}
@@ -53,14 +54,56 @@ verifierHashSize s = leAt 4 (48 + headerSize s) s
 unfoldable pub encryptedVerifierHash : List ℕ → List ℕ
 encryptedVerifierHash s = take 32 (drop (52 + headerSize s) s)
 
--- ---- the algorithms (01's table of AlgID, KeySize and rounds; 000 3.1)
+-- the numbers that are judged
+unfoldable pub numbersOf : List ℕ → Numbers
+numbersOf s =
+    record {
+      length = length s;
+      major = major s;
+      minor = minor s;
+      «header_size» = headerSize s;
+      «size_extra» = sizeExtra s;
+      «alg_id» = algId s;
+      «alg_id_hash» = algIdHash s;
+      «key_size» = record { 0 = keySize s };
+      «salt_size» = saltSize s;
+      «verifier_hash_size» = verifierHashSize s;
+    }
+
+-- ---- the algorithms
+
+-- a row of 01's table: AlgID, KeySize in bits, rounds
+pub record Algorithm : Type 0 where
+  pub algId : ℕ
+  pub bits : ℕ
+  pub rounds : ℕ
+
+abbrev algorithm : ℕ → ℕ → ℕ → Algorithm
+algorithm algId bits rounds = record { algId = algId; bits = bits; rounds = rounds }
+
+-- the table (01, "EncryptionInfo, byte for byte"; 000 3.1)
+unfoldable pub algorithms : List Algorithm
+algorithms =
+    algorithm 0x660e 128 10
+    ∷ algorithm 0x660f 192 12
+    ∷ algorithm 0x6610 256 14
+    ∷ []
+
+-- what the first row gives whose number in a column is n, or what there is for none
+unfoldable pub lookUp : {A : Type 0} → List Algorithm → (column : Algorithm → ℕ) (n : ℕ) (gives : Algorithm → A) (none : A) → A
+lookUp [] column n gives none = none
+lookUp (x ∷ xs) column n gives none = cond (eqb n (column x)) (gives x) (lookUp xs column n gives none)
 
 abbrev pub suite : ℕ → ℕ → ℕ → Suite
 suite answer bits rounds = record { answer = answer; bits = record { 0 = bits }; rounds = rounds }
 
 -- key size in bits and rounds for an AlgID, or 6
 unfoldable pub suiteOf : ℕ → Suite
-suiteOf a = cond (eqb a 0x660e) (suite 0 128 10) (cond (eqb a 0x660f) (suite 0 192 12) (cond (eqb a 0x6610) (suite 0 256 14) (suite 6 0 0)))
+suiteOf algId = lookUp algorithms (λ x. x .algId) algId (λ x. suite 0 (x .bits) (x .rounds)) (suite 6 0 0)
+
+-- the AlgID whose key has so many bits, 0 where there is none
+unfoldable pub algIdOf : ℕ → ℕ
+algIdOf bits = lookUp algorithms (λ x. x .bits) bits (λ x. x .algId) 0
 
 -- ---- what each rule tests (01, "The numbered replies")
 
@@ -74,20 +117,24 @@ badHeaderSize h = ltb h 32 || ltb 4096 h
 unfoldable pub badName : ℕ → ℕ → Bool
 badName h x = ltb h (32 + x) || not (eqb ((h - 32 - x) % 2) 0)
 
--- the rules 1 to 10, in order
-unfoldable pub infoRules : List ℕ → List Rule
-infoRules s =
-    rule 1 (ltb (length s) 12)
-    ∷ rule 2 (badVersion (major s) (minor s))
-    ∷ rule 3 (badHeaderSize (headerSize s))
-    ∷ rule 4 (not (eqb (length s) (headerSize s + 84)))
-    ∷ rule 5 (badName (headerSize s) (sizeExtra s))
-    ∷ rule 6 (not (eqb (suiteOf (algId s) .answer) 0))
-    ∷ rule 7 (not (eqb (algIdHash s) 0x8004))
-    ∷ rule 8 (not (eqb (keySize s) (suiteOf (algId s) .bits .0)))
-    ∷ rule 9 (not (eqb (saltSize s) 16))
-    ∷ rule 10 (not (eqb (verifierHashSize s) 20))
+-- the rules 1 to 10, in order, on the numbers of EncryptionInfo
+abbrev pub numberRules : Numbers → List Rule
+numberRules n =
+    rule 1 (ltb (n .length) 12)
+    ∷ rule 2 (badVersion (n .major) (n .minor))
+    ∷ rule 3 (badHeaderSize (n .«header_size»))
+    ∷ rule 4 (not (eqb (n .length) (n .«header_size» + 84)))
+    ∷ rule 5 (badName (n .«header_size») (n .«size_extra»))
+    ∷ rule 6 (not (eqb (suiteOf (n .«alg_id») .answer) 0))
+    ∷ rule 7 (not (eqb (n .«alg_id_hash») 0x8004))
+    ∷ rule 8 (not (eqb (n .«key_size» .0) (suiteOf (n .«alg_id») .bits .0)))
+    ∷ rule 9 (not (eqb (n .«salt_size») 16))
+    ∷ rule 10 (not (eqb (n .«verifier_hash_size») 20))
     ∷ []
+
+-- and on EncryptionInfo itself
+unfoldable pub infoRules : List ℕ → List Rule
+infoRules s = numberRules (numbersOf s)
 
 -- ---- the parse
 
@@ -97,13 +144,13 @@ described s =
     record {
       major = major s;
       minor = minor s;
-      alg = algId s;
-      key = record { 0 = keySize s / 8 };
-      place = 44;
-      name = headerSize s - 32 - sizeExtra s;
+      «alg_id» = algId s;
+      «key_size» = record { 0 = keySize s / 8 };
+      «name_place» = 44;
+      «name_length» = headerSize s - 32 - sizeExtra s;
       salt = saltOf s;
-      verifier = encryptedVerifier s;
-      hash = encryptedVerifierHash s;
+      «encrypted_verifier» = encryptedVerifier s;
+      «encrypted_verifier_hash» = encryptedVerifierHash s;
     }
 
 -- zeros in every field, the place too
@@ -112,13 +159,13 @@ zeroed =
     record {
       major = 0;
       minor = 0;
-      alg = 0;
-      key = record { 0 = 0 };
-      place = 0;
-      name = 0;
+      «alg_id» = 0;
+      «key_size» = record { 0 = 0 };
+      «name_place» = 0;
+      «name_length» = 0;
       salt = replicate 16 0;
-      verifier = replicate 16 0;
-      hash = replicate 32 0;
+      «encrypted_verifier» = replicate 16 0;
+      «encrypted_verifier_hash» = replicate 32 0;
     }
 
 -- what `parse` gives for every stream

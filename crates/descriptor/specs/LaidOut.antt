@@ -1,6 +1,6 @@
 -- EncryptionInfo laid out from its fields (01, "EncryptionInfo, byte for byte"; 004 2.3.2, 2.3.3 and 2.3.4.5, 000 section 2): `Info`
 -- read the other way. Assumes nothing.
-use mathlib.Core.List.{List, [], _∷_, _++_}
+use mathlib.Core.List.{List, [], _∷_, _++_, flatMap}
 use Prim.Native.Nat.{ℕ, _/_}
 use lib.ListN.{length}
 use Rattle.octets.specs.Octets.{leBytes}
@@ -31,17 +31,12 @@ pub record Fields : Type 0 where
   pub verifierHashSize : ℕ
   pub encryptedVerifierHash : List ℕ
 
--- each number in four bytes
-unfoldable pub fourBytesEach : List ℕ → List ℕ
-fourBytesEach [] = []
-fourBytesEach (n ∷ ns) = leBytes 4 n ++ fourBytesEach ns
-
--- the 44 bytes before the name
+-- the 44 bytes before the name: two numbers in two bytes each, then ten in four
 unfoldable pub front : Fields → List ℕ
 front f =
     leBytes 2 (f .major)
     ++ leBytes 2 (f .minor)
-    ++ fourBytesEach (f .flags ∷ f .headerSize
+    ++ flatMap (leBytes 4) (f .flags ∷ f .headerSize
     ∷ f .headerFlags ∷ f .sizeExtra ∷ f .algId ∷ f .algIdHash ∷ f .keySize ∷ f .providerType ∷ f .reserved1 ∷ f .reserved2 ∷ [])
 
 -- EncryptionVerifier, the bytes after EncryptionHeader
@@ -59,11 +54,11 @@ says f =
     record {
       major = f .major;
       minor = f .minor;
-      alg = f .algId;
-      key = record { 0 = f .keySize / 8 };
-      place = 44;
-      name = length (f .name);
+      «alg_id» = f .algId;
+      «key_size» = record { 0 = f .keySize / 8 };
+      «name_place» = 44;
+      «name_length» = length (f .name);
       salt = f .salt;
-      verifier = f .encryptedVerifier;
-      hash = f .encryptedVerifierHash;
+      «encrypted_verifier» = f .encryptedVerifier;
+      «encrypted_verifier_hash» = f .encryptedVerifierHash;
     }

@@ -6,12 +6,14 @@
 // Both Flags, ProviderType, the Reserved fields, the name's text and the opaque bytes after it are not judged. The verifier's place
 // comes from HeaderSize alone, never from the name's text.
 ghost use mathlib.Core.Path.{_≡_};
-ghost use Prim.Native.Nat.{_+_, _/_, _≤_};
-ghost use lib.ListN.{length, take, drop};
+ghost use Prim.Native.Nat.{_/_};
 ghost use Rattle.answers.specs.Rules.{firstOf};
 ghost use Rattle.descriptor.specs.Info as stream;
+use answers::first;
 use octets::le16;
 use octets::le32;
+use octets::sixteen;
+use octets::thirty_two;
 
 // A key's length as the file counts it. It is no count of bytes, and can't be used as one.
 pub struct BitCount(pub u32);
@@ -26,19 +28,36 @@ pub struct Suite {
     pub rounds: usize,
 }
 
+// The numbers of EncryptionInfo that are judged, as the file has them: bytes past its end count as 0.
+pub struct Numbers {
+    // How many bytes EncryptionInfo has.
+    pub length: usize,
+    // EncryptionVersionInfo and the size of EncryptionHeader (004 2.3.4.5).
+    pub major: u16,
+    pub minor: u16,
+    pub header_size: u32,
+    // EncryptionHeader (004 2.3.2).
+    pub size_extra: u32,
+    pub alg_id: u32,
+    pub alg_id_hash: u32,
+    pub key_size: BitCount,
+    // EncryptionVerifier (004 2.3.3).
+    pub salt_size: u32,
+    pub verifier_hash_size: u32,
+}
+
 // What EncryptionInfo says.
 pub struct Descriptor {
     pub major: u16,
     pub minor: u16,
-    pub alg: u32,
-    pub key: ByteCount,
+    pub alg_id: u32,
+    pub key_size: ByteCount,
     // The provider name's place, from the start of EncryptionInfo, and its length in bytes.
-    pub place: usize,
-    pub name: usize,
+    pub name_place: usize,
+    pub name_length: usize,
     pub salt: [u8; 16],
-    // EncryptedVerifier and EncryptedVerifierHash.
-    pub verifier: [u8; 16],
-    pub hash: [u8; 32],
+    pub encrypted_verifier: [u8; 16],
+    pub encrypted_verifier_hash: [u8; 32],
 }
 
 // An answer, and the descriptor where it is 0: zeros where it is not.
@@ -48,10 +67,10 @@ pub struct Parsed {
 }
 
 // Key size and rounds of an AlgID.
-pub fn suite_of(alg: u32) -> Suite
-    ensures { λ r. ⌜ r ≡ stream.suiteOf alg ⌝ }
+pub fn suite_of(alg_id: u32) -> Suite
+    ensures { λ r. ⌜ r ≡ stream.suiteOf «alg_id» ⌝ }
 {
-    match alg {
+    match alg_id {
         0x660e => Suite {
             answer: answers::DONE,
             bits: BitCount(128),
@@ -72,6 +91,19 @@ pub fn suite_of(alg: u32) -> Suite
             bits: BitCount(0),
             rounds: 0,
         },
+    }
+}
+
+// The AlgID whose key has so many bits, 0 where there is none.
+pub fn alg_id_of(bits: BitCount) -> u32
+    ensures { λ r. ⌜ r ≡ stream.algIdOf (bits .0) ⌝ }
+{
+    let n = bits.0;
+    match n {
+        128 => 0x660e,
+        192 => 0x660f,
+        256 => 0x6610,
+        _ => 0,
     }
 }
 
@@ -106,85 +138,88 @@ fn bad_name(h: u32, x: u32) -> bool
     (h - 32 - x) % 2 != 0
 }
 
-// The first of the rules 1 to 10 that is broken, from the last to the first: each test stands by itself and costs little.
-fn answer(s: &[u8]) -> u16
-    ensures { λ r. ⌜ r ≡ firstOf (stream.infoRules (now (s .entry))) ⌝ }
+// The numbers at their places; EncryptionVerifier comes right after EncryptionHeader, which begins at 12.
+fn numbers_of(s: &[u8]) -> Numbers
+    ensures { λ r. ⌜ r ≡ stream.numbersOf (now (s .entry)) ⌝ }
 {
-    let h = le32(s, 8);
-    let at = h as usize;
-    let suite = suite_of(le32(s, 20));
-    let rest = answers::DONE;
-    let rest = answers::first(le32(s, 48 + at) != 20, answers::VERIFIER_HASH_SIZE, rest);
-    let rest = answers::first(le32(s, 12 + at) != 16, answers::SALT_SIZE, rest);
-    let rest = answers::first(le32(s, 28) != suite.bits.0, answers::KEY_SIZE, rest);
-    let rest = answers::first(le32(s, 24) != 0x8004, answers::ALG_ID_HASH, rest);
-    let rest = answers::first(suite.answer != answers::DONE, answers::ALG_ID, rest);
-    let rest = answers::first(bad_name(h, le32(s, 16)), answers::NAME_LENGTH, rest);
-    let rest = answers::first(s.len() != at + 84, answers::INFO_LENGTH, rest);
-    let rest = answers::first(bad_header_size(h), answers::HEADER_SIZE, rest);
-    let rest = answers::first(bad_version(le16(s, 0), le16(s, 2)), answers::VERSION, rest);
-    answers::first(s.len() < 12, answers::INFO_SHORT, rest)
-}
-
-// The sixteen bytes at `at`.
-fn sixteen(s: &[u8], at: usize) -> [u8; 16]
-    requires { ⌜ at + 16 ≤ length (now s) ⌝ }
-    ensures { λ r. ⌜ r ≡ take 16 (drop at (now (s .entry))) ⌝ }
-{
-    let mut a = [0u8; 16];
-    octets::copy(s, at, 16, &mut a, 0);
-    a
-}
-
-// The thirty-two bytes at `at`.
-fn thirty_two(s: &[u8], at: usize) -> [u8; 32]
-    requires { ⌜ at + 32 ≤ length (now s) ⌝ }
-    ensures { λ r. ⌜ r ≡ take 32 (drop at (now (s .entry))) ⌝ }
-{
-    let mut a = [0u8; 32];
-    octets::copy(s, at, 32, &mut a, 0);
-    a
-}
-
-// The fields of a stream that breaks no rule.
-fn described(s: &[u8]) -> Descriptor
-    requires { ⌜ firstOf (stream.infoRules (now s)) ≡ 0 ⌝ }
-    ensures { λ r. ⌜ r ≡ stream.described (now (s .entry)) ⌝ }
-{
-    let h = le32(s, 8) as usize;
-    let salt = sixteen(s, 16 + h);
-    let verifier = sixteen(s, 32 + h);
-    let hash = thirty_two(s, 52 + h);
-    Descriptor {
+    let header_size = le32(s, 8);
+    let h = header_size as usize;
+    Numbers {
+        length: s.len(),
         major: le16(s, 0),
         minor: le16(s, 2),
-        alg: le32(s, 20),
-        key: in_bytes(BitCount(le32(s, 28))),
-        place: 44,
-        name: h - 32 - (le32(s, 16) as usize),
+        header_size,
+        size_extra: le32(s, 16),
+        alg_id: le32(s, 20),
+        alg_id_hash: le32(s, 24),
+        key_size: BitCount(le32(s, 28)),
+        salt_size: le32(s, 12 + h),
+        verifier_hash_size: le32(s, 48 + h),
+    }
+}
+
+// The first of the rules 1 to 10 that is broken, from the last to the first: each test stands by itself and costs little.
+fn answer(n: Numbers) -> u16
+    ensures { λ r. ⌜ r ≡ firstOf (stream.numberRules n) ⌝ }
+{
+    let h = n.header_size;
+    let suite = suite_of(n.alg_id);
+    let rest = answers::DONE;
+    let rest = first(
+        n.verifier_hash_size != 20,
+        answers::VERIFIER_HASH_SIZE,
+        rest,
+    );
+    let rest = first(n.salt_size != 16, answers::SALT_SIZE, rest);
+    let rest = first(n.key_size.0 != suite.bits.0, answers::KEY_SIZE, rest);
+    let rest = first(n.alg_id_hash != 0x8004, answers::ALG_ID_HASH, rest);
+    let rest = first(suite.answer != answers::DONE, answers::ALG_ID, rest);
+    let rest = first(bad_name(h, n.size_extra), answers::NAME_LENGTH, rest);
+    let rest = first(n.length != h as usize + 84, answers::INFO_LENGTH, rest);
+    let rest = first(bad_header_size(h), answers::HEADER_SIZE, rest);
+    let rest = first(bad_version(n.major, n.minor), answers::VERSION, rest);
+    first(n.length < 12, answers::INFO_SHORT, rest)
+}
+
+// The fields of a stream whose numbers break no rule.
+fn described(s: &[u8], n: Numbers) -> Descriptor
+    requires { ⌜ (n ≡ stream.numbersOf (now s)) × (firstOf (stream.numberRules n) ≡ 0) ⌝ }
+    ensures { λ r. ⌜ r ≡ stream.described (now (s .entry)) ⌝ }
+{
+    let h = n.header_size as usize;
+    let salt = sixteen(s, 16 + h);
+    let encrypted_verifier = sixteen(s, 32 + h);
+    let encrypted_verifier_hash = thirty_two(s, 52 + h);
+    Descriptor {
+        major: n.major,
+        minor: n.minor,
+        alg_id: n.alg_id,
+        key_size: in_bytes(n.key_size),
+        name_place: 44,
+        name_length: h - 32 - (n.size_extra as usize),
         salt,
-        verifier,
-        hash,
+        encrypted_verifier,
+        encrypted_verifier_hash,
     }
 }
 
 // Zeros in every field.
-fn zeroed() -> Descriptor
+pub fn zeroed() -> Descriptor
     ensures { λ r. ⌜ r ≡ stream.zeroed ⌝ }
 {
     let salt = [0u8; 16];
-    let verifier = [0u8; 16];
-    let hash = [0u8; 32];
+    let encrypted_verifier = [0u8; 16];
+    let encrypted_verifier_hash = [0u8; 32];
     Descriptor {
         major: 0,
         minor: 0,
-        alg: 0,
-        key: ByteCount(0),
-        place: 0,
-        name: 0,
+        alg_id: 0,
+        key_size: ByteCount(0),
+        name_place: 0,
+        name_length: 0,
         salt,
-        verifier,
-        hash,
+        encrypted_verifier,
+        encrypted_verifier_hash,
     }
 }
 
@@ -192,12 +227,13 @@ fn zeroed() -> Descriptor
 pub fn parse(info: &[u8]) -> Parsed
     ensures { λ r. ⌜ r ≡ stream.parsed (now (info .entry)) ⌝ }
 {
-    let a = answer(info);
+    let n = numbers_of(info);
+    let a = answer(n);
     if a != answers::DONE {
         let fields = zeroed();
         return Parsed { answer: a, fields };
     }
-    let fields = described(info);
+    let fields = described(info, n);
     Parsed {
         answer: answers::DONE,
         fields,

@@ -1,6 +1,6 @@
 -- Unit i is the number at place 2i, so the loop lays one more a turn; and the bytes of the units are the file again. Assumes nothing.
-use mathlib.Core.Path.{_≡_, refl, sym, ap, _∙_}
-use mathlib.Core.List.{List, [], _∷_, _++_}
+use mathlib.Core.Path.{_≡_, refl, sym, _∙_}
+use mathlib.Core.List.{List, [], _∷_, flatMap}
 use Prim.Native.Nat.{ℕ, zero, suc, _+_, _*_, _/_, _%_, _≤_, _<_}
 use native.Mathlib.Numerals.{add-one}
 use native.Mathlib.Omega.{arith}
@@ -36,7 +36,7 @@ unit-next s d i v h k e q =
 
 -- of a file of even length no byte is lost or changed
 pub units-bytes : (s : List ℕ) → Bytes s → length s % 2 ≡ 0 → unitBytes (units s) ≡ s
-unfolding units unitBytes leBytes
+unfolding units flatMap leBytes
 units-bytes [] b h = refl
 units-bytes (x ∷ []) b h = absurd (omega arith)
 units-bytes (x ∷ y ∷ s) b h =

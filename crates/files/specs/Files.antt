@@ -6,8 +6,10 @@ use Prim.Native.Nat.{ℕ, _+_, _*_, _%_}
 use lib.Dec.{ltb, eqb}
 use lib.ListN.{length}
 use Rattle.answers.specs.Rules.{Rule, rule, firstOf}
-use Rattle.sheet.specs.Frame.{streamSize}
-use Rattle.sheet.specs.Sheet.{Left, ended, openRules, packageOf}
+use Rattle.answers.specs.Ended.{Left, ended}
+use Rattle.password.specs.Lock.{lockOf}
+use Rattle.lengths.specs.Lengths.{streamSize}
+use Rattle.sheet.specs.Sheet.{openRules, packageOf}
 
 -- a file as it was found: whether it could be read, and the bytes that were read (of a file above the limit enough to tell so)
 pub record File : Type 0 where
@@ -56,7 +58,7 @@ units (low ∷ high ∷ s) = (low + 256 * high) ∷ units s
 unfoldable pub rules : (info password stream : File) (room : ℕ) → List Rule
 rules info password stream room =
     fileRules info password stream
-    ++ openRules (info .bytes) (units (password .bytes)) (stream .bytes) room
+    ++ openRules (lockOf (info .bytes) (units (password .bytes))) (stream .bytes) room
 
 -- `open`
 unfoldable pub filesOpened : (info password stream : File) (out : List ℕ) → Left
@@ -64,5 +66,5 @@ filesOpened info password stream out =
     ended
     (firstOf (rules info password stream (length out)))
     (streamSize (stream .bytes))
-    (packageOf (info .bytes) (units (password .bytes)) (stream .bytes))
+    (packageOf (lockOf (info .bytes) (units (password .bytes))) (stream .bytes))
     out

@@ -4,10 +4,10 @@ ghost use mathlib.Core.Path.{_≡_};
 ghost use Prim.Native.Nat.{_*_, _/_, _≤_};
 ghost use lib.ListN.{length, take};
 ghost use Rattle.answers.specs.Rules.{firstOf};
-ghost use Rattle.sheet.specs.Sheet.{left};
+ghost use Rattle.answers.specs.Ended.{left};
 ghost use Rattle.files.specs.Files as Files;
 ghost use Rattle.files.specs.Files.{file};
-use sheet::Reply;
+use answers::Reply;
 
 // The most bytes of a file, and the most units of a password file within it.
 const LIMIT: usize = 65536;

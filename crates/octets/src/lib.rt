@@ -5,7 +5,7 @@
 ghost use mathlib.Core.Path.{_≡_};
 ghost use mathlib.Core.List.{[], _∷_};
 ghost use Prim.Native.Nat.{_+_, _^_, _≤_, _<_};
-ghost use lib.ListN.{length, getD, drop};
+ghost use lib.ListN.{length, getD, take, drop};
 ghost use lib.Seq.{paste};
 ghost use Rattle.octets.specs.Octets.{leAt, leBytes, beAt, beBytes, zeroFrom};
 
@@ -134,6 +134,26 @@ pub fn copy(s: &[u8], from: usize, n: usize, d: &mut [u8], at: usize)
         d[at + i] = s[from + i];
         i += 1;
     }
+}
+
+// The sixteen bytes at `at`.
+pub fn sixteen(s: &[u8], at: usize) -> [u8; 16]
+    requires { ⌜ at + 16 ≤ length (now s) ⌝ }
+    ensures { λ r. ⌜ r ≡ take 16 (drop at (now (s .entry))) ⌝ }
+{
+    let mut a = [0u8; 16];
+    copy(s, at, 16, &mut a, 0);
+    a
+}
+
+// The thirty-two bytes at `at`.
+pub fn thirty_two(s: &[u8], at: usize) -> [u8; 32]
+    requires { ⌜ at + 32 ≤ length (now s) ⌝ }
+    ensures { λ r. ⌜ r ≡ take 32 (drop at (now (s .entry))) ⌝ }
+{
+    let mut a = [0u8; 32];
+    copy(s, at, 32, &mut a, 0);
+    a
 }
 
 // Zeros from `from` to the end of d.

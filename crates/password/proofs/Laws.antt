@@ -1,28 +1,28 @@
 -- The ways out of the verdict: a law for each, for this crate's proofs and those above. Assumes nothing.
 use mathlib.Core.Path.{_≡_, refl, sym, ap, _∙_}
-use mathlib.Core.Bool.{true, false}
-use mathlib.Core.List.{List, _++_}
-use mathlib.Core.Logic.{inl, inr, ⊎-elim}
-use Prim.Native.Nat.{ℕ, _≤_, _<_}
+use mathlib.Core.Bool.{Bool, true, false}
+use mathlib.Core.List.{List, [], _∷_, _++_}
+use mathlib.Core.Logic.{_↔_, inl, inr, ⊎-elim}
+use Prim.Native.Nat.{ℕ, _≤_}
 use native.Mathlib.Omega.{arith}
-use borrow.Author.Tests.{lt-ltb, le-ltb, ne-eqb, eqb-true, eqb-false}
-use lib.Dec.{eqb}
-use lib.ListN.{length, take, drop, length-append}
-use lib.Seq.{take-at, length-take-le}
-use Rattle.octets.specs.Octets.{Bytes, same}
+use borrow.Author.Tests.{ltb-false, le-ltb, ne-eqb, eqb-true, eqb-false}
+use lib.Dec.{T, eqb}
+use lib.ListN.{length, length-append}
+use lib.Seq.{length-take-le}
+use Rattle.octets.specs.Octets.{Bytes}
 use Rattle.octets.proofs.Below.{append-below, take-below}
-use Rattle.octets.proofs.Equal.{same-self}
-use Rattle.answers.specs.Rules.{firstOf}
-use Rattle.answers.proofs.Laws.{either, stop, then, both-zero}
+use Rattle.answers.specs.Rules.{firstOf, after, numbered, numbers}
+use Rattle.answers.proofs.Laws.{either, in-turn, after-none, after-some, after-zero, numbers-both, both-zero, both-numbered, none-broken}
 use Rattle.sha1.proofs.Laws.{length-sha1, sha1-bytes}
-use Rattle.sha1.specs.Sha1.{sha1}
-use Rattle.aes.specs.Aes.{keyLength, expanded, decryption}
+use Rattle.aes.specs.Aes.{keyLength, expanded}
 use Rattle.aes.proofs.Keys.{key-lengths}
 use Rattle.descriptor.specs.Info.{infoRules, described, parsed}
 use Rattle.descriptor.specs.declared.Descriptor.{Descriptor}
 use Rattle.descriptor.specs.declared.Parsed.{Parsed}
-use Rattle.descriptor.proofs.Laws.{Admitted, WellFormed, info-numbered, parsed-answer, parsed-fields}
+use Rattle.descriptor.proofs.Laws.{Admitted, WellFormed, info-numbered, info-numbers, parsed-answer, parsed-fields}
+use Rattle.password.specs.Lock.{Lock, lockOf}
 use Rattle.password.specs.Key as Key
+use Rattle.password.specs.Verifier.{verifierOpening, matches}
 use Rattle.password.specs.Verdict as Verdict
 use Rattle.password.specs.declared.Unlocked.{Unlocked}
 
@@ -44,116 +44,161 @@ pub length-keyBytes : (n : ℕ) (salt p : List ℕ) → n ≤ 40 → length (Key
 unfolding Key.keyBytes
 length-keyBytes n salt p h = length-take-le n (Key.material salt p) (omega (arith, length-material salt p))
 
-pub keyOf-is : (d : Descriptor) (p : List ℕ) → Verdict.keyOf d p ≡ Key.keyBytes (d .key .0) (d .salt) p
+pub keyOf-is : (d : Descriptor) (p : List ℕ) → Verdict.keyOf d p ≡ Key.keyBytes (d .«key_size» .0) (d .salt) p
 unfolding Verdict.keyOf
 keyOf-is d p = refl
 
 pub key-bytes : (d : Descriptor) (p : List ℕ) → Bytes (Verdict.keyOf d p)
 unfolding Verdict.keyOf
-key-bytes d p = keyBytes-bytes (d .key .0) (d .salt) p
+key-bytes d p = keyBytes-bytes (d .«key_size» .0) (d .salt) p
 
 -- the key of a descriptor within its ranges is as long as it says
 module _ (d : Descriptor) (p : List ℕ) (h : WellFormed d) where
-  pub key-short : d .key .0 ≤ 32
+  pub key-short : d .«key_size» .0 ≤ 32
   key-short = ⊎-elim (λ e. omega arith) (⊎-elim (λ e. omega arith) (⊎-elim (λ e. omega arith) (λ e. absurd e))) (h .key)
 
-  pub length-key : length (Verdict.keyOf d p) ≡ d .key .0
+  pub length-key : length (Verdict.keyOf d p) ≡ d .«key_size» .0
   unfolding Verdict.keyOf
-  length-key = length-keyBytes (d .key .0) (d .salt) p (omega (arith, key-short))
+  length-key = length-keyBytes (d .«key_size» .0) (d .salt) p (omega (arith, key-short))
 
   pub key-fits : keyLength (length (Verdict.keyOf d p)) ≡ true
-  key-fits = rw length-key (key-lengths (d .key .0) (h .key))
+  key-fits = rw length-key (key-lengths (d .«key_size» .0) (h .key))
+
+-- ---- the rules
+
+pub text-numbered : (p : List ℕ) → T (numbered (Verdict.textRules p))
+unfolding Verdict.textRules
+text-numbered p = tt
+
+pub text-numbers : (p : List ℕ) → numbers (Verdict.textRules p) ≡ 11 ∷ []
+unfolding Verdict.textRules
+text-numbers p = refl
+
+-- a text that breaks no rule has at most 255 units
+pub text-short : (p : List ℕ) → (firstOf (Verdict.textRules p) ≡ 0) ↔ (length p ≤ 255)
+unfolding Verdict.textRules
+text-short p = (λ h. ltb-false _ _ (none-broken (Verdict.textRules p) tt .0 h .0), λ h. none-broken (Verdict.textRules p) tt .1 (le-ltb _ _ h, tt))
+
+verifier-numbered : (d : Descriptor) (p : List ℕ) → T (numbered (Verdict.verifierRules d p))
+unfolding Verdict.verifierRules
+verifier-numbered d p = tt
+
+early-numbered : (lock : Lock) → T (numbered (Verdict.earlyRules lock))
+unfolding Verdict.earlyRules
+early-numbered lock = both-numbered (infoRules (lock .info)) (Verdict.textRules (lock .password)) (info-numbered (lock .info)) (text-numbered (lock .password))
+
+pub verdict-numbered : (lock : Lock) → T (numbered (Verdict.verdictRules lock))
+unfolding Verdict.verdictRules
+verdict-numbered lock =
+    both-numbered (Verdict.earlyRules lock) _ (early-numbered lock) (verifier-numbered (described (lock .info)) (lock .password))
+
+pub verdict-numbers : (lock : Lock) → numbers (Verdict.verdictRules lock) ≡ 1 ∷ 2 ∷ 3 ∷ 4 ∷ 5 ∷ 6 ∷ 7 ∷ 8 ∷ 9 ∷ 10 ∷ 11 ∷ 12 ∷ []
+unfolding Verdict.verdictRules Verdict.earlyRules Verdict.verifierRules
+verdict-numbers lock =
+    numbers-both (infoRules (lock .info) ++ Verdict.textRules (lock .password)) _
+    ∙ rw (numbers-both (infoRules (lock .info)) (Verdict.textRules (lock .password)), info-numbers (lock .info), text-numbers (lock .password))
+
+-- the password matches the verifier of a descriptor
+abbrev pub Matched : Descriptor → List ℕ → Bool
+Matched d p = matches (verifierOpening (Verdict.keyOf d p)) (d .«encrypted_verifier») (d .«encrypted_verifier_hash»)
 
 -- ---- the ways out
 
-module _ (info p : List ℕ) where
-  -- EncryptionInfo is refused
-  pub by-info : (Admitted info → ⊥) → Verdict.unlocked info p ≡ Verdict.refusedKey (firstOf (infoRules info))
-  unfolding Verdict.unlocked Verdict.judged Verdict.verdictRules
-  by-info h =
-      let e : firstOf (Verdict.verdictRules info p) ≡ firstOf (infoRules info) = stop (infoRules info) (Verdict.passwordRules (described info) p) h in
-      rw e (simp (ne-eqb _ _ h))
+module _ (lock : Lock) where
+  abbrev d : Descriptor
+  d = described (lock .info)
 
-  module _ (h : Admitted info) where
-    rest : Verdict.judged info p ≡ firstOf (Verdict.passwordRules (described info) p)
-    unfolding Verdict.judged Verdict.verdictRules
-    rest = then (infoRules info) (Verdict.passwordRules (described info) p) (info-numbered info) h
+  -- what is answered before anything is hashed
+  abbrev early : ℕ
+  early = firstOf (Verdict.earlyRules lock)
 
-    -- the password is too long
-    pub by-length : 255 < length p → Verdict.unlocked info p ≡ Verdict.refusedKey 11
-    unfolding Verdict.unlocked Verdict.passwordRules firstOf
-    by-length l = rw rest (simp (lt-ltb _ _ l))
+  pub early-in-turn : early ≡ after (firstOf (infoRules (lock .info))) (firstOf (Verdict.textRules (lock .password)))
+  unfolding Verdict.earlyRules
+  early-in-turn = in-turn (infoRules (lock .info)) (Verdict.textRules (lock .password)) (info-numbered (lock .info))
 
-    module _ (l : length p ≤ 255) where
-      -- it does not match
-      pub by-verifier : Verdict.matches (Verdict.keyOf (described info) p) (described info .verifier) (described info .hash) ≡ false
-          → Verdict.unlocked info p ≡ Verdict.refusedKey 12
-      unfolding Verdict.unlocked Verdict.passwordRules firstOf
-      by-verifier m = rw rest (simp (le-ltb _ _ l, m))
+  -- then the verifier
+  in-order : Verdict.judged lock ≡ after early (firstOf (Verdict.verifierRules d (lock .password)))
+  unfolding Verdict.judged Verdict.verdictRules
+  in-order =
+      in-turn (Verdict.earlyRules lock) (Verdict.verifierRules d (lock .password)) (early-numbered lock)
 
-      -- it matches
-      pub done : Verdict.matches (Verdict.keyOf (described info) p) (described info .verifier) (described info .hash) ≡ true
-          → Verdict.unlocked info p ≡ record { answer = 0; key = expanded (Verdict.keyOf (described info) p) }
-      unfolding Verdict.unlocked Verdict.passwordRules firstOf
-      done m = rw rest (simp (le-ltb _ _ l, m))
+  -- refused early
+  pub by-early : (early ≡ 0 → ⊥) → Verdict.unlocked lock ≡ Verdict.refusedUnlock early
+  unfolding Verdict.unlocked
+  by-early h = rw (in-order, after-some early (firstOf (Verdict.verifierRules d (lock .password))) h) (simp (ne-eqb _ _ h))
+
+  module _ (z : early ≡ 0) where
+    rest : Verdict.judged lock ≡ firstOf (Verdict.verifierRules d (lock .password))
+    rest = in-order ∙ after-none early (firstOf (Verdict.verifierRules d (lock .password))) z
+
+    -- the password does not match
+    pub by-verifier : Matched d (lock .password) ≡ false → Verdict.unlocked lock ≡ Verdict.refusedUnlock 12
+    unfolding Verdict.unlocked Verdict.verifierRules firstOf
+    by-verifier m = rw rest (simp m)
+
+    -- it matches
+    pub done : Matched d (lock .password) ≡ true
+        → Verdict.unlocked lock ≡ record { answer = 0; fields = d; key = expanded (Verdict.keyOf d (lock .password)) }
+    unfolding Verdict.unlocked Verdict.verifierRules firstOf
+    done m = rw rest (simp m)
 
 -- the answer is the verdict, whichever way out
-pub unlocked-answer : (info p : List ℕ) → Verdict.unlocked info p .answer ≡ Verdict.judged info p
-unfolding Verdict.unlocked Verdict.refusedKey
-unlocked-answer info p =
-    elim (either (eqb (Verdict.judged info p) 0)) [
+pub unlocked-answer : (lock : Lock) → Verdict.unlocked lock .answer ≡ Verdict.judged lock
+unfolding Verdict.unlocked Verdict.refusedUnlock
+unlocked-answer lock =
+    elim (either (eqb (Verdict.judged lock) 0)) [
       | inl e ↦ rw e (sym (eqb-true _ _ e))
       | inr e ↦ rw e
     ]
 
--- a verdict of 0 means an admitted EncryptionInfo, and comes with the expanded key
-module _ (info p : List ℕ) (v : Verdict.judged info p ≡ 0) where
-  pub admitted : Admitted info
+-- a verdict of 0 means an admitted EncryptionInfo and a short text, and comes with the descriptor and the expanded key
+module _ (lock : Lock) (v : Verdict.judged lock ≡ 0) where
+  pub admitted : Admitted (lock .info)
   unfolding Verdict.judged Verdict.verdictRules
-  admitted = both-zero (infoRules info) (Verdict.passwordRules (described info) p) (info-numbered info) v .0
+  admitted =
+      let z = both-zero (Verdict.earlyRules lock) (Verdict.verifierRules (described (lock .info)) (lock .password)) (early-numbered lock) v .0 in
+      after-zero _ _ (sym (early-in-turn lock) ∙ z) .0
 
-  pub unlocked-key : Verdict.unlocked info p .key ≡ expanded (Verdict.keyOf (described info) p)
+  pub unlocked-fields : Verdict.unlocked lock .fields ≡ described (lock .info)
+  unfolding Verdict.unlocked
+  unlocked-fields = simp v
+
+  pub unlocked-key : Verdict.unlocked lock .key ≡ expanded (Verdict.keyOf (described (lock .info)) (lock .password))
   unfolding Verdict.unlocked
   unlocked-key = simp v
 
 -- ---- what makes a verdict of 0
 
--- a verifier that decrypts to v, and a hash field that decrypts to the hash of v first
-pub matching : (k v verifier hash rest : List ℕ) → decryption k verifier ≡ v
-    → decryption k (take 16 hash) ++ decryption k (drop 16 hash) ≡ sha1 v ++ rest → Verdict.matches k verifier hash ≡ true
-unfolding Verdict.matches Verdict.verifierHash
-matching k v verifier hash rest e f = rw (e, f, take-at (sha1 v) rest 20 (length-sha1 v)) (same-self (sha1 v))
-
-pub accepted : (info p : List ℕ) → Admitted info → length p ≤ 255
-    → Verdict.matches (Verdict.keyOf (described info) p) (described info .verifier) (described info .hash) ≡ true → Verdict.judged info p ≡ 0
-accepted info p h l m = sym (unlocked-answer info p) ∙ ap (λ (u : Unlocked). u .answer) (done info p h l m)
+pub accepted : (lock : Lock) → Admitted (lock .info) → length (lock .password) ≤ 255 → Matched (described (lock .info)) (lock .password) ≡ true
+    → Verdict.judged lock ≡ 0
+accepted lock h l m =
+    let z = early-in-turn lock ∙ after-none _ _ h ∙ text-short (lock .password) .1 l in
+    sym (unlocked-answer lock) ∙ ap (λ (u : Unlocked). u .answer) (done lock z m)
 
 -- ---- what the verdict depends on
 
--- of the decrypted hash field, its first twenty bytes alone
-pub first-twenty : (key verifier hash other : List ℕ) → take 20 (Verdict.verifierHash key hash) ≡ take 20 (Verdict.verifierHash key other)
-    → Verdict.matches key verifier hash ≡ Verdict.matches key verifier other
-unfolding Verdict.matches
-first-twenty key verifier hash other e = ap (same (sha1 (decryption key verifier))) e
-
--- where EncryptionInfo is admitted, the fields of its parse
-judged-fields : (info p : List ℕ) → Admitted info → Verdict.judged info p ≡ firstOf (Verdict.passwordRules (parsed info .fields) p)
-judged-fields info p h = rest info p h ∙ ap (λ (d : Descriptor). firstOf (Verdict.passwordRules d p)) (sym (parsed-fields info h))
+-- where EncryptionInfo is admitted, the fields of its parse, and the password
+judged-fields : (lock : Lock) → Admitted (lock .info)
+    → Verdict.judged lock ≡ after (firstOf (Verdict.textRules (lock .password))) (firstOf (Verdict.verifierRules (parsed (lock .info) .fields) (lock .password)))
+judged-fields lock h =
+    in-order lock ∙ rw (early-in-turn lock, h, parsed-fields (lock .info) h, after-none 0 (firstOf (Verdict.textRules (lock .password))) refl)
 
 -- and where it is not, the answer
-judged-refused : (info p : List ℕ) → (Admitted info → ⊥) → Verdict.judged info p ≡ parsed info .answer
-unfolding Verdict.judged Verdict.verdictRules
-judged-refused info p h = stop (infoRules info) (Verdict.passwordRules (described info) p) h ∙ sym (parsed-answer info)
+judged-refused : (lock : Lock) → (Admitted (lock .info) → ⊥) → Verdict.judged lock ≡ parsed (lock .info) .answer
+judged-refused lock h =
+    let a = after-some (firstOf (infoRules (lock .info))) (firstOf (Verdict.textRules (lock .password))) h in
+    in-order lock ∙ rw (early-in-turn lock, a) (after-some _ _ h) ∙ sym (parsed-answer (lock .info))
 
 -- so a parse determines the verdict, together with the password
-pub determined : (info other p : List ℕ) → parsed info ≡ parsed other → Verdict.judged info p ≡ Verdict.judged other p
+pub determined : (info other p : List ℕ) → parsed info ≡ parsed other → Verdict.judged (lockOf info p) ≡ Verdict.judged (lockOf other p)
 determined info other p e =
     let a : firstOf (infoRules info) ≡ firstOf (infoRules other) = sym (parsed-answer info) ∙ ap (λ (x : Parsed). x .answer) e ∙ parsed-answer other in
+    let f : Parsed → ℕ = λ x. after (firstOf (Verdict.textRules p)) (firstOf (Verdict.verifierRules (x .fields) p)) in
     elim (either (eqb (firstOf (infoRules info)) 0)) [
       | inl t ↦
           let h : Admitted info = eqb-true _ _ t in
-          judged-fields info p h ∙ ap (λ (x : Parsed). firstOf (Verdict.passwordRules (x .fields) p)) e ∙ sym (judged-fields other p (sym a ∙ h))
+          judged-fields (lockOf info p) h ∙ ap f e ∙ sym (judged-fields (lockOf other p) (sym a ∙ h))
       | inr t ↦
           let h : Admitted info → ⊥ = eqb-false _ _ t in
-          judged-refused info p h ∙ ap (λ (x : Parsed). x .answer) e ∙ sym (judged-refused other p (λ z. h (a ∙ z)))
+          judged-refused (lockOf info p) h ∙ ap (λ (x : Parsed). x .answer) e ∙ sym (judged-refused (lockOf other p) (λ z. h (a ∙ z)))
     ]

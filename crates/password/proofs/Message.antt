@@ -1,6 +1,6 @@
 -- The bytes that are hashed grow by one unit, or one masked byte, a turn; what lies past them is as it was laid. Assumes nothing.
 use mathlib.Core.Path.{_≡_, refl, sym, ap, _∙_}
-use mathlib.Core.List.{List, [], _∷_, _++_, map, append-nil, append-assoc}
+use mathlib.Core.List.{List, _∷_, _++_, map}
 use Prim.Native.Nat.{ℕ, suc, _+_, _-_, _*_, _≤_, _<_}
 use native.Mathlib.Numerals.{add-one}
 use native.Mathlib.Omega.{arith}
@@ -10,43 +10,23 @@ use lib.Seq.{paste, take-suc, take-all, take-at, set-at, length-take-le, append-
 use Rattle.octets.specs.Octets.{leBytes}
 use Rattle.octets.proofs.Numbers.{length-leBytes}
 use Rattle.octets.proofs.Parts.{paste-two, paste-whole}
+use Rattle.octets.proofs.Each.{length-each, each-all}
 use Rattle.sha1.specs.Sha1.{sha1}
 use Rattle.sha1.proofs.Laws.{length-sha1}
 use Rattle.password.specs.Key as Key
 
 -- ---- the password's bytes
 
-pub length-units : (p : List ℕ) → length (Key.unitBytes p) ≡ 2 * length p
-unfolding Key.unitBytes
-length-units [] = refl
-length-units (u ∷ us) = simp (length-append, length-leBytes) (omega (arith, length-units us))
-
-units-append : (x y : List ℕ) → Key.unitBytes (x ++ y) ≡ Key.unitBytes x ++ Key.unitBytes y
-unfolding Key.unitBytes
-units-append [] y = refl
-units-append (u ∷ x) y = rw (units-append x y) (sym (append-assoc (leBytes 2 u) (Key.unitBytes x) (Key.unitBytes y)))
-
-units-more : (p : List ℕ) (i : ℕ) → i < length p → Key.unitBytes (take (i + 1) p) ≡ Key.unitBytes (take i p) ++ leBytes 2 (getD p i 0)
-unfolding Key.unitBytes
-units-more p i h = rw (add-one, take-suc p i 0 h) (units-append (take i p) (getD p i 0 ∷ []) ∙ rw append-nil)
-
--- one unit more, laid after the first i
-pub units-next : (d e f p : List ℕ) (i : ℕ) → i < length p → 16 + 2 * length p ≤ length d → e ≡ paste d 16 (Key.unitBytes (take i p)) (2 * i)
-    → f ≡ paste e (16 + 2 * i) (leBytes 2 (getD p i 0)) 2 → f ≡ paste d 16 (Key.unitBytes (take (i + 1) p)) (2 * (i + 1))
-units-next d e f p i h room q r =
-    let n : 2 * (i + 1) ≡ 2 * i + 2 = omega arith in
-    let l : length (Key.unitBytes (take i p)) ≡ 2 * i = length-units (take i p) ∙ ap (λ (k : ℕ). 2 * k) (length-take-le i p (omega arith)) in
-    rw n (paste-two (Key.unitBytes (take i p)) (leBytes 2 (getD p i 0)) (Key.unitBytes (take (i + 1) p)) (2 * i) 2 16 d e f
-    l (length-leBytes 2 (getD p i 0)) (sym (units-more p i h)) (omega arith) q r)
+length-units : (p : List ℕ) → length (Key.unitBytes p) ≡ 2 * length p
+length-units = length-each (leBytes 2) (length-leBytes 2)
 
 -- salt, then all the units
 pub message-law : (salt p d e f : List ℕ) (i : ℕ) → length salt ≡ 16 → i ≡ length p → 16 + 2 * length p ≤ length d → e ≡ paste d 0 salt 16
     → f ≡ paste e 16 (Key.unitBytes (take i p)) (2 * i) → take (16 + 2 * length p) f ≡ salt ++ Key.unitBytes p
 message-law salt p d e f i hs q room g h =
-    let all : take i p ≡ p = take-all i p (omega arith) in
     let l : length (salt ++ Key.unitBytes p) ≡ 16 + 2 * length p = simp length-append (omega (arith, length-units p)) in
     let laid : f ≡ paste d 0 (salt ++ Key.unitBytes p) (16 + 2 * length p) =
-    paste-two salt (Key.unitBytes p) (salt ++ Key.unitBytes p) 16 (2 * length p) 0 d e f hs (length-units p) refl (omega arith) g (rw (all, q) at h) in
+    paste-two salt (Key.unitBytes p) (salt ++ Key.unitBytes p) 16 (2 * length p) 0 d e f hs (length-units p) refl (omega arith) g (each-all (leBytes 2) (length-leBytes 2) e p 16 i q h) in
     rw (laid, take-all (16 + 2 * length p) (salt ++ Key.unitBytes p) (omega arith)) (take-at (salt ++ Key.unitBytes p) _ (16 + 2 * length p) l)
 
 -- ---- the mask

@@ -1,2 +1,4 @@
+pub mod Lock
 pub mod Key
+pub mod Verifier
 pub mod Verdict

@@ -1,52 +1,53 @@
--- The verdict on a password (01, rules 11 and 12; 004 2.3.4.9, 000 section 6), and the key that comes with it. Assumes nothing.
-use mathlib.Core.Bool.{Bool, cond, not}
+-- The verdict on a password (01, rules 11 and 12; 004 2.3.4.9, 000 section 6), and what comes with it. Assumes nothing.
+use mathlib.Core.Bool.{cond, not}
 use mathlib.Core.List.{List, [], _∷_, _++_}
 use Prim.Native.Nat.{ℕ}
 use lib.Dec.{ltb, eqb}
-use lib.ListN.{length, take, drop, replicate}
-use Rattle.octets.specs.Octets.{same}
+use lib.ListN.{length, replicate}
 use Rattle.answers.specs.Rules.{Rule, rule, firstOf}
-use Rattle.sha1.specs.Sha1.{sha1}
-use Rattle.aes.specs.Aes.{decryption, expanded}
-use Rattle.descriptor.specs.Info.{infoRules, described}
+use Rattle.aes.specs.Aes.{expanded}
+use Rattle.descriptor.specs.Info.{infoRules, described, zeroed}
 use Rattle.descriptor.specs.declared.Descriptor.{Descriptor}
+use Rattle.password.specs.Lock.{Lock}
 use Rattle.password.specs.Key.{keyBytes}
+use Rattle.password.specs.Verifier.{verifierOpening, matches}
 use Rattle.password.specs.declared.Unlocked.{Unlocked}
 
 -- the key of a descriptor and a password, as long as the descriptor says
-unfoldable pub keyOf : Descriptor → List ℕ → List ℕ
-keyOf d password = keyBytes (d .key .0) (d .salt) password
+unfoldable pub keyOf : Descriptor → (password : List ℕ) → List ℕ
+keyOf d password = keyBytes (d .«key_size» .0) (d .salt) password
 
--- EncryptedVerifierHash decrypted, its two blocks one by one
-unfoldable pub verifierHash : List ℕ → List ℕ → List ℕ
-verifierHash key hash = decryption key (take 16 hash) ++ decryption key (drop 16 hash)
+-- ---- the rules
 
--- the hash of the decrypted verifier is the first 20 of those 32 bytes; the other 12 are ignored
-unfoldable pub matches : List ℕ → List ℕ → List ℕ → Bool
-matches key verifier hash = same (sha1 (decryption key verifier)) (take 20 (verifierHash key hash))
+-- on the password's text
+unfoldable pub textRules : (password : List ℕ) → List Rule
+textRules password = rule 11 (ltb 255 (length password)) ∷ []
 
--- the rules 11 and 12
-unfoldable pub passwordRules : Descriptor → List ℕ → List Rule
-passwordRules d password =
-    rule 11 (ltb 255 (length password))
-    ∷ rule 12 (not (matches (keyOf d password) (d .verifier) (d .hash)))
-    ∷ []
+-- on the password against the verifier
+unfoldable pub verifierRules : Descriptor → (password : List ℕ) → List Rule
+verifierRules d password =
+    rule 12 (not (matches (verifierOpening (keyOf d password)) (d .«encrypted_verifier») (d .«encrypted_verifier_hash»))) ∷ []
 
--- the rules 1 to 12
-unfoldable pub verdictRules : List ℕ → List ℕ → List Rule
-verdictRules info password = infoRules info ++ passwordRules (described info) password
+-- those that are judged before anything is hashed, in order: 1 to 11
+unfoldable pub earlyRules : Lock → List Rule
+earlyRules lock = infoRules (lock .info) ++ textRules (lock .password)
+
+-- 1 to 12, in order
+unfoldable pub verdictRules : Lock → List Rule
+verdictRules lock = earlyRules lock ++ verifierRules (described (lock .info)) (lock .password)
+
+-- ---- the verdict
 
 -- what `verdict` answers
-unfoldable pub judged : List ℕ → List ℕ → ℕ
-judged info password = firstOf (verdictRules info password)
+unfoldable pub judged : Lock → ℕ
+judged lock = firstOf (verdictRules lock)
 
--- a refusal carries no key: zeros and no rounds
-unfoldable pub refusedKey : ℕ → Unlocked
-refusedKey answer = record { answer = answer; key = record { bytes = replicate 240 0; rounds = 0 } }
+-- a refusal carries nothing: zeros in every field, and a key of zeros and no rounds
+unfoldable pub refusedUnlock : (answer : ℕ) → Unlocked
+refusedUnlock answer = record { answer = answer; fields = zeroed; key = record { bytes = replicate 240 0; rounds = 0 } }
 
--- what `unlock` gives: the expanded key where the answer is 0
-unfoldable pub unlocked : List ℕ → List ℕ → Unlocked
-unlocked info password =
-    cond (eqb (judged info password) 0)
-    (record { answer = 0; key = expanded (keyOf (described info) password) })
-    (refusedKey (judged info password))
+-- what `unlock` gives: the descriptor and the expanded key where the answer is 0
+unfoldable pub unlocked : Lock → Unlocked
+unlocked lock =
+    let d : Descriptor = described (lock .info) in
+    cond (eqb (judged lock) 0) (record { answer = 0; fields = d; key = expanded (keyOf d (lock .password)) }) (refusedUnlock (judged lock))

@@ -4,8 +4,11 @@ ghost use mathlib.Core.List.{_++_};
 ghost use Prim.Native.Nat.{_+_, _*_, _≤_, _<_};
 ghost use lib.ListN.{length, take};
 ghost use Rattle.sha1.specs.Sha1.{sha1, output};
+ghost use Rattle.aes.specs.Aes.{expanded};
 ghost use Rattle.password.specs.Key as Key;
 use crate::turns;
+use aes::Expanded;
+use descriptor::ByteCount;
 use sha1::State;
 
 // Salt and password: two bytes a unit, low byte first, after the salt's sixteen.
@@ -70,5 +73,15 @@ pub fn material(salt: [u8; 16], password: &[u16]) -> [u8; 40]
     requires { ⌜ length (now password) ≤ 255 ⌝ }
     ensures { λ r. ⌜ r ≡ Key.material salt (now (password .entry)) ⌝ }
 {
-    derived(sha1::output(turns::block_hash(password_hash(salt, password))))
+    derived(sha1::output(turns::block_hash(0, password_hash(salt, password))))
+}
+
+// The key of so many bytes, expanded.
+pub fn expanded_key(size: ByteCount, salt: [u8; 16], password: &[u16]) -> Expanded
+    requires { ⌜ (size .0 ≤ 40) × (length (now password) ≤ 255) ⌝ }
+    ensures { λ r. ⌜ r ≡ expanded (Key.keyBytes (size .0) salt (now (password .entry))) ⌝ }
+{
+    let n = size.0;
+    let bytes = material(salt, password);
+    aes::expand(&bytes[..n])
 }

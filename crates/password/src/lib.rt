@@ -2,10 +2,12 @@
 // 2.3.4.9, 000 sections 4 to 6).
 //
 //     let u = password::unlock(info, units);
-//     if u.answer == answers::DONE { .. u.key .. }
+//     if u.answer == answers::DONE { .. u.key, u.fields.salt .. }
 //
 // A password is 16-bit units as they are: any unit, none of them special, at most 255. The 50,000 turns are run once a call.
 ghost use mathlib.Core.Path.{_≡_};
+ghost use Rattle.answers.specs.Rules.{firstOf};
+ghost use Rattle.password.specs.Lock.{lockOf};
 ghost use Rattle.password.specs.Verdict as Verdict;
 
 mod key;
@@ -13,50 +15,59 @@ mod turns;
 mod verifier;
 
 use aes::Expanded;
+use descriptor::Descriptor;
+pub use key::expanded_key;
 pub use key::material;
 pub use key::password_hash;
 pub use turns::block_hash;
 
-// An answer, and the expanded key where it is 0: zeros and no rounds where it is not.
+// An answer and, where it is 0, the descriptor and the expanded key: zeros and no rounds where it is not.
 pub struct Unlocked {
     pub answer: u16,
+    pub fields: Descriptor,
     pub key: Expanded,
 }
 
 // A refusal.
 fn refused(answer: u16) -> Unlocked
-    ensures { λ r. ⌜ r ≡ Verdict.refusedKey answer ⌝ }
+    ensures { λ r. ⌜ r ≡ Verdict.refusedUnlock answer ⌝ }
 {
+    let fields = descriptor::zeroed();
     let bytes = [0u8; 240];
     Unlocked {
         answer,
+        fields,
         key: Expanded { bytes, rounds: 0 },
     }
 }
 
-// The verdict on a password, with the key that it unlocks. A refused EncryptionInfo or a long password is answered before
+// The first rule on a password's text that it breaks; 0 where it breaks none.
+pub fn text_answer(password: &[u16]) -> u16
+    ensures { λ r. ⌜ r ≡ firstOf (Verdict.textRules (now (password .entry))) ⌝ }
+{
+    answers::first(255 < password.len(), answers::PASSWORD_LONG, answers::DONE)
+}
+
+// The verdict on a password, with the descriptor and the key that it unlocks. A refused EncryptionInfo or text is answered before
 // anything is hashed.
 pub fn unlock(info: &[u8], password: &[u16]) -> Unlocked
-    ensures { λ r. ⌜ r ≡ Verdict.unlocked (now (info .entry)) (now (password .entry)) ⌝ }
+    ensures { λ r. ⌜ r ≡ Verdict.unlocked (lockOf (now (info .entry)) (now (password .entry))) ⌝ }
 {
     let p = descriptor::parse(info);
-    let a = p.answer;
+    let a = answers::then(p.answer, text_answer(password));
     if a != answers::DONE {
         return refused(a);
     }
-    if 255 < password.len() {
-        return refused(answers::PASSWORD_LONG);
-    }
-    let d = p.fields;
-    let salt = d.salt;
-    let n = d.key.0;
-    let material = key::material(salt, password);
-    let key = aes::expand(&material[..n]);
-    let verifier = d.verifier;
-    let hash = d.hash;
+    let fields = p.fields;
+    let salt = fields.salt;
+    let size = fields.key_size;
+    let key = expanded_key(size, salt, password);
+    let verifier = fields.encrypted_verifier;
+    let hash = fields.encrypted_verifier_hash;
     if verifier::matches(key, verifier, hash) {
         return Unlocked {
             answer: answers::DONE,
+            fields,
             key,
         };
     }
@@ -65,7 +76,7 @@ pub fn unlock(info: &[u8], password: &[u16]) -> Unlocked
 
 // The verdict alone.
 pub fn verdict(info: &[u8], password: &[u16]) -> u16
-    ensures { λ r. ⌜ r ≡ Verdict.judged (now (info .entry)) (now (password .entry)) ⌝ }
+    ensures { λ r. ⌜ r ≡ Verdict.judged (lockOf (now (info .entry)) (now (password .entry))) ⌝ }
 {
     unlock(info, password).answer
 }

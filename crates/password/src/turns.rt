@@ -38,10 +38,10 @@ pub fn spun(s: State) -> State
     h
 }
 
-// B: the hash of H and block number 0.
-pub fn block_hash(s: State) -> State
-    ensures { λ r. ⌜ output r ≡ blockHash (output s) ⌝ }
+// B: the hash of H and a block number.
+pub fn block_hash(number: u32, s: State) -> State
+    ensures { λ r. ⌜ output r ≡ blockHash number (output s) ⌝ }
 {
     let k = sha1::round_words();
-    sha1::six(&k, s.a, s.b, s.c, s.d, s.e, 0)
+    sha1::six(&k, s.a, s.b, s.c, s.d, s.e, swapped(number))
 }

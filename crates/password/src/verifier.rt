@@ -1,50 +1,41 @@
-// The password check (004 2.3.4.9, 000 section 6): the verifier's hash against what EncryptedVerifierHash decrypts to.
+// The password check (004 2.3.4.9, 000 section 6): the verifier's hash against what is stored.
 ghost use mathlib.Core.Path.{_≡_};
-ghost use Prim.Native.Nat.{ℕ, _+_, _≤_};
+ghost use Prim.Native.Nat.{ℕ, _≤_, _<_};
 ghost use mathlib.Core.Bool.{true};
-ghost use mathlib.Core.List.{List};
+ghost use mathlib.Core.List.{List, _++_};
 ghost use lib.ListN.{length, take, drop};
 ghost use Rattle.octets.specs.Octets.{same};
-ghost use Rattle.aes.specs.Aes.{keyLength, expanded, decryption};
-ghost use Rattle.password.specs.Verdict as Verdict;
+ghost use Rattle.aes.specs.Aes.{keyLength, expanded};
+ghost use Rattle.password.specs.Verifier as Verifier;
 use aes::Expanded;
 
-// Sixteen of thirty-two bytes.
-fn half(h: [u8; 32], at: usize) -> [u8; 16]
-    requires { ⌜ at + 16 ≤ 32 ⌝ }
-    ensures { λ r. ⌜ r ≡ take 16 (drop at h) ⌝ }
+// EncryptedVerifier and EncryptedVerifierHash, one after the other.
+fn fields(verifier: [u8; 16], hash: [u8; 32]) -> [u8; 48]
+    ensures { λ r. ⌜ r ≡ verifier ++ hash ⌝ }
 {
-    let mut a = [0u8; 16];
-    octets::copy(&h, at, 16, &mut a, 0);
-    a
+    let mut b = [0u8; 48];
+    octets::copy(&verifier, 0, 16, &mut b, 0);
+    octets::copy(&hash, 0, 32, &mut b, 16);
+    b
 }
 
-// A block decrypted under the expanded key of a key.
-fn decrypt(key: Expanded, block: [u8; 16]) -> [u8; 16]
-    ensures { λ r. ⌜ ((k : List ℕ) → keyLength (length k) ≡ true → key ≡ expanded k → r ≡ decryption k block) ⌝ }
+// They, decrypted under the expanded key of a key.
+fn opened(key: Expanded, fields: [u8; 48]) -> [u8; 48]
+    requires { ⌜ (0 < key .rounds) × (key .rounds ≤ 14) ⌝ }
+    ensures { λ r. ⌜ ((k : List ℕ) → keyLength (length k) ≡ true → key ≡ expanded k → r ≡ Verifier.verifierOpening k fields) ⌝ }
 {
-    aes::decrypt_block(key, block).block
+    let mut plain = [0u8; 48];
+    blocks::decrypt(key, blocks::start(), &fields, 48, &mut plain);
+    plain
 }
 
-// Two blocks one after the other, decrypted under the expanded key of a key.
-fn decrypted_hash(key: Expanded, hash: [u8; 32]) -> [u8; 32]
-    ensures { λ r. ⌜ ((k : List ℕ) → keyLength (length k) ≡ true → key ≡ expanded k → r ≡ Verdict.verifierHash k hash) ⌝ }
-{
-    let first = decrypt(key, half(hash, 0));
-    let second = decrypt(key, half(hash, 16));
-    let mut h = [0u8; 32];
-    octets::copy(&first, 0, 16, &mut h, 0);
-    octets::copy(&second, 0, 16, &mut h, 16);
-    h
-}
-
-// Whether twenty bytes are the first of thirty-two.
-fn agree(digest: [u8; 20], hash: [u8; 32]) -> bool
-    ensures { λ r. ⌜ r ≡ same digest (take 20 hash) ⌝ }
+// Whether twenty bytes are those after the first sixteen.
+fn agree(digest: [u8; 20], plain: [u8; 48]) -> bool
+    ensures { λ r. ⌜ r ≡ same digest (take 20 (drop 16 plain)) ⌝ }
 {
     let mut i = 0;
     while i < 20 {
-        if digest[i] != hash[i] {
+        if digest[i] != plain[16 + i] {
             return false;
         }
         i += 1;
@@ -54,9 +45,10 @@ fn agree(digest: [u8; 20], hash: [u8; 32]) -> bool
 
 // Whether the verifier's hash is what was stored, under the expanded key of a key.
 pub fn matches(key: Expanded, verifier: [u8; 16], hash: [u8; 32]) -> bool
-    ensures { λ r. ⌜ ((k : List ℕ) → keyLength (length k) ≡ true → key ≡ expanded k → r ≡ Verdict.matches k verifier hash) ⌝ }
+    requires { ⌜ (0 < key .rounds) × (key .rounds ≤ 14) ⌝ }
+    ensures { λ r. ⌜ ((k : List ℕ) → keyLength (length k) ≡ true → key ≡ expanded k → r ≡ Verifier.matches (Verifier.verifierOpening k) verifier hash) ⌝ }
 {
-    let v = decrypt(key, verifier);
-    let digest = sha1::output(sha1::hash(&v));
-    agree(digest, decrypted_hash(key, hash))
+    let plain = opened(key, fields(verifier, hash));
+    let digest = sha1::output(sha1::hash(&plain[..16]));
+    agree(digest, plain)
 }

@@ -1,11 +1,11 @@
 -- Whichever files were read, what they open to lies within the output. Assumes nothing.
-use mathlib.Core.Path.{_≡_, ap}
+use mathlib.Core.Path.{ap}
 use mathlib.Core.List.{List}
 use Prim.Native.Nat.{ℕ, _≤_}
 use native.Mathlib.Omega.{arith}
 use lib.ListN.{length}
-use Rattle.sheet.specs.declared.Reply.{Reply}
-use Rattle.sheet.specs.Sheet.{Left}
+use Rattle.answers.specs.Ended.{Left}
+use Rattle.answers.specs.declared.Reply.{Reply}
 use Rattle.files.proofs.Laws.{size-within}
 use Rattle.program.specs.Run.{OpensFiles}
 

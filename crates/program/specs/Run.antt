@@ -4,8 +4,8 @@ use mathlib.Core.Path.{_≡_}
 use mathlib.Core.Logic.{_⊎_}
 use mathlib.Core.List.{List}
 use Prim.Native.Nat.{ℕ}
-use Rattle.sheet.specs.declared.Reply.{Reply}
-use Rattle.sheet.specs.Sheet.{left, reply}
+use Rattle.answers.specs.Ended.{left, reply}
+use Rattle.answers.specs.declared.Reply.{Reply}
 use Rattle.files.specs.Files.{File, filesOpened}
 
 -- the reply, and the output from what it was to what it is, are those of some three files

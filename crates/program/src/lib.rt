@@ -7,8 +7,8 @@ mod input;
 mod output;
 
 ghost use Rattle.program.specs.Run.{OpensFiles, Settled};
+use answers::Reply;
 use files::There;
-use sheet::Reply;
 
 // Reads the files and opens them into out.
 fn open_files(out: &mut [u8]) -> Reply

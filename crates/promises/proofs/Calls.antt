@@ -1,6 +1,6 @@
 -- Our entries keep the demands on every call: what a call of ours gives or leaves is the definition's, of which demands 1 and 2 speak. And
 -- who keeps them on every call keeps demands 1 and 2, so the calls ask no less. Assumes nothing.
-use mathlib.Core.Path.{_≡_, refl, sym}
+use mathlib.Core.Path.{_≡_, refl, sym, _∙_}
 use mathlib.Core.Logic.{_↔_, inl, inr}
 use mathlib.Core.Bool.{Bool, true, false, cond, true≢false}
 use mathlib.Core.List.{List, _∷_, _++_}
@@ -10,15 +10,18 @@ use borrow.Author.Tests.{eq-eqb, ne-eqb}
 use lib.Dec.{T}
 use lib.ListN.{length, replicate}
 use Rattle.answers.specs.Rules.{OneOf, firstOf, numbered}
-use Rattle.answers.proofs.Laws.{none-broken, both-zero, listed}
+use Rattle.answers.proofs.Laws.{none-broken, both-zero, both-numbered, numbers-both, listed, listed-in}
+use Rattle.answers.proofs.Endings.{ended-answer}
 use Rattle.sha1.specs.Sha1.{hashRules, hashed}
 use Rattle.aes.specs.Aes.{keyLength, encryption, decryption, doneBlock, refusedBlock, encrypted, decrypted}
-use Rattle.descriptor.specs.Info.{infoRules, parsed}
-use Rattle.password.specs.Verdict.{verdictRules, passwordRules, judged}
-use Rattle.sheet.specs.Frame.{streamSize}
-use Rattle.sheet.specs.Sheet.{openRules, streamRules, packageOf, opened, sealed}
-use Rattle.sheet.proofs.Laws.{ended-answer}
+use Rattle.descriptor.specs.Info.{parsed}
+use Rattle.password.specs.Verdict.{judged}
+use Rattle.password.specs.Lock.{Lock, lockOf}
+use Rattle.lengths.specs.Lengths.{streamSize}
+use Rattle.sheet.specs.Sheet.{openRules, packageOf, opened, sealed}
+use Rattle.sheet.proofs.Laws.{open-numbered, open-numbers}
 use Rattle.files.specs.Files.{File, fileRules, units, rules, filesOpened}
+use Rattle.files.proofs.Laws.{file-numbered, file-numbers}
 use Rattle.promises.specs.Words.{Parser, Judge, Opener, Sealer}
 use Rattle.promises.specs.Demand1.{Call, Demand1, openNumbers}
 use Rattle.promises.specs.Demand2.{Demand2}
@@ -77,30 +80,30 @@ module _ (key block : List ℕ) where
 pub parsing : (info : List ℕ) → Parsing info (parsed info)
 parsing info = record { ends = demand-1 .parsing info; answers = demand-2 .parse-answer info; published = demand-2 .descriptor info }
 
-module _ (info password : List ℕ) where
-  pub judging : Judging info password (judged info password)
+module _ (lock : Lock) where
+  pub judging : Judging lock (judged lock)
   judging =
       record {
-        ends = demand-1 .judging info password;
-        answers = demand-2 .verdict-answer info password;
-        published = demand-2 .verdict info password;
+        ends = demand-1 .judging lock;
+        answers = demand-2 .verdict-answer lock;
+        published = demand-2 .verdict lock;
       }
 
-  pub opening : (stream out : List ℕ) → Opening info password stream out (opened info password stream out)
+  pub opening : (stream out : List ℕ) → Opening lock stream out (opened lock stream out)
   opening s out =
       record {
-        call = demand-1 .opening info password s out;
-        answers = demand-2 .open-answer info password s out;
-        published = demand-2 .opening info password s out;
+        call = demand-1 .opening lock s out;
+        answers = demand-2 .open-answer lock s out;
+        published = demand-2 .opening lock s out;
       }
 
-  pub sealing : (pack given : List ℕ) (extra : Bool) (out : List ℕ) → length given ≡ 16
-      → Sealing info password pack given extra out (sealed info password pack given extra out)
-  sealing pack given extra out g =
+  pub sealing : («package» filling : List ℕ) (extra : Bool) (out : List ℕ) → length filling ≡ 16
+      → Sealing lock «package» filling extra out (sealed lock «package» filling extra out)
+  sealing «package» filling extra out g =
       record {
-        call = demand-1 .sealing info password pack given extra out g;
-        answers = demand-2 .seal-answer info password pack given extra out g;
-        published = demand-2 .sealing info password pack given extra out g;
+        call = demand-1 .sealing lock «package» filling extra out g;
+        answers = demand-2 .seal-answer lock «package» filling extra out g;
+        published = demand-2 .sealing lock «package» filling extra out g;
       }
 
 pub writing : (i : Input) (out : List ℕ) → Typed i → Writing i out (writes i out)
@@ -121,19 +124,26 @@ seventeen n (inl e) = inl e
 seventeen n (inr o) = inr (once 6 17 n openNumbers o)
 
 module _ (info password stream : File) (out : List ℕ) where
+  abbrev lock : Lock
+  lock = lockOf (info .bytes) (units (password .bytes))
+
   files-numbered : T (numbered (rules info password stream (length out)))
-  unfolding rules fileRules openRules verdictRules infoRules passwordRules streamRules
-  files-numbered = tt
+  unfolding rules
+  files-numbered = both-numbered (fileRules info password stream) (openRules lock (stream .bytes) (length out)) (file-numbered info password stream) (open-numbered lock (stream .bytes) out)
 
   files-answer : OneOf (0 ∷ fileNumbers) (firstOf (rules info password stream (length out)))
-  unfolding rules fileRules openRules verdictRules infoRules passwordRules streamRules
-  files-answer = seventeen _ (listed (rules info password stream (length out)))
+  unfolding rules
+  files-answer =
+      seventeen _
+      (listed-in (rules info password stream (length out)) (replicate 6 17 ++ fileNumbers)
+      (numbers-both (fileRules info password stream) (openRules lock (stream .bytes) (length out))
+      ∙ rw (file-numbers info password stream, open-numbers lock (stream .bytes) out)))
 
-  files-call : Call fileNumbers (packageOf (info .bytes) (units (password .bytes)) (stream .bytes)) out (filesOpened info password stream out)
-  unfolding filesOpened rules fileRules
+  files-call : Call fileNumbers (packageOf lock (stream .bytes)) out (filesOpened info password stream out)
+  unfolding filesOpened rules
   files-call =
       ended-call fileNumbers _ (streamSize (stream .bytes)) _ out files-answer
-      (λ z. open-fits (info .bytes) (units (password .bytes)) (stream .bytes) out (both-zero (fileRules info password stream) _ tt z .1))
+      (λ z. open-fits lock (stream .bytes) out (both-zero (fileRules info password stream) _ (file-numbered info password stream) z .1))
 
   pub opening-files : FilesOpening info password stream out (filesOpened info password stream out)
   unfolding filesOpened
@@ -144,28 +154,28 @@ module _ (info password stream : File) (out : List ℕ) where
 
 module _ (parses : Parser) (judges : Judge) (opens : Opener) (seals : Sealer)
     (p : (info : List ℕ) → Parsing info (parses info))
-    (j : (info password : List ℕ) → Judging info password (judges info password))
-    (o : (info password stream out : List ℕ) → Opening info password stream out (opens info password stream out))
-    (s : (info password pack given : List ℕ) (extra : Bool) (out : List ℕ) → length given ≡ 16
-    → Sealing info password pack given extra out (seals info password pack given extra out)) where
+    (j : (lock : Lock) → Judging lock (judges lock))
+    (o : (lock : Lock) (stream out : List ℕ) → Opening lock stream out (opens lock stream out))
+    (s : (lock : Lock) («package» filling : List ℕ) (extra : Bool) (out : List ℕ) → length filling ≡ 16
+    → Sealing lock «package» filling extra out (seals lock «package» filling extra out)) where
   pub all-calls-1 : Demand1 parses judges opens seals
   all-calls-1 =
       record {
         parsing = λ info. p info .ends;
-        judging = λ info password. j info password .ends;
-        opening = λ info password stream out. o info password stream out .call;
-        sealing = λ info password pack given extra out g. s info password pack given extra out g .call;
+        judging = λ lock. j lock .ends;
+        opening = λ lock stream out. o lock stream out .call;
+        sealing = λ lock «package» filling extra out g. s lock «package» filling extra out g .call;
       }
 
   pub all-calls-2 : Demand2 parses judges opens seals
   all-calls-2 =
       record {
         parse-answer = λ info. p info .answers;
-        verdict-answer = λ info password. j info password .answers;
-        open-answer = λ info password stream out. o info password stream out .answers;
-        seal-answer = λ info password pack given extra out g. s info password pack given extra out g .answers;
+        verdict-answer = λ lock. j lock .answers;
+        open-answer = λ lock stream out. o lock stream out .answers;
+        seal-answer = λ lock «package» filling extra out g. s lock «package» filling extra out g .answers;
         descriptor = λ info. p info .published;
-        verdict = λ info password. j info password .published;
-        opening = λ info password stream out. o info password stream out .published;
-        sealing = λ info password pack given extra out g. s info password pack given extra out g .published;
+        verdict = λ lock. j lock .published;
+        opening = λ lock stream out. o lock stream out .published;
+        sealing = λ lock «package» filling extra out g. s lock «package» filling extra out g .published;
       }

@@ -11,17 +11,19 @@ use lib.Dec.{T, ltb, eqb, ltb→lt, lit≤, lit<}
 use lib.ListN.{length, take, drop, take-append-drop}
 use Rattle.answers.specs.Rules.{Rule, firstOf, AllHold}
 use Rattle.answers.proofs.Laws.{either, both, broke, held, all-hold}
-use Rattle.descriptor.specs.Info.{infoRules, headerSize, sizeExtra, algId, keySize, badHeaderSize, badName, suiteOf, described, parsed}
+use Rattle.answers.proofs.Rows.{_and_}
+use Rattle.blocks.specs.Blocks.{ecbUnder}
+use Rattle.descriptor.specs.Info.{infoRules, numbersOf, headerSize, sizeExtra, algId, keySize, algorithms, lookUp, suiteOf, badHeaderSize, badName, described, parsed}
 use Rattle.descriptor.proofs.Laws.{parsed-answer, parsed-fields}
 use Rattle.password.specs.Verdict.{judged, keyOf}
-use Rattle.sheet.specs.Frame.{streamSize, streamOf}
-use Rattle.sheet.specs.Sheet.{packageLimit, least, takesExtra, fillingFor, rounded, sealedSize, shortStream, large, streamRules, packRules, opened, sealed}
-use Rattle.sheet.specs.Sheet.{sheetKey, sealing, filledWith, sealingOf}
-use Rattle.sheet.proofs.Fillings.{untaken}
+use Rattle.lengths.specs.Lengths.{streamSize, packageLimit, least, takesExtra, fillingFor, rounded, sealedSize, large, lengthRules, sizeRules}
+use Rattle.lengths.proofs.Fillings.{untaken}
+use Rattle.sheet.specs.Frame.{streamOf}
+use Rattle.sheet.specs.Scheme.{stepOf}
+use Rattle.sheet.specs.Sheet.{streamRules, packageRules, openRules, sealRules, opened, sealed, sheetKey, sheetStep, sealing, filledWith, sealingOf}
 use Rattle.sheet.proofs.Lengths.{sealable}
-use Rattle.sheet.proofs.Laws.{open-by-stream, seal-by-pack, seal-done}
+use Rattle.sheet.proofs.Laws.{open-after, open-refused, seal-after, seal-refused, seal-done}
 use Rattle.promises.specs.Cases.{_is_, Case, seals, chooses, refuses, answers, passes, names, table, Outside, Claim, Every}
-use Rattle.answers.proofs.Rows.{_and_}
 
 -- what a row claims of our entries
 abbrev Ours : Case → Type 0
@@ -29,41 +31,42 @@ Ours = Claim parsed judged opened sealed
 
 -- ---- sealing and opening
 
-chooses-row : (extra : Bool) (size filling : ℕ) → fillingFor extra size ≡ filling → size ≤ 268435456 → Ours (chooses extra size (8 + (size + filling)) filling)
-unfolding packageLimit sealedSize rounded sealingOf streamOf filledWith sealing sheetKey keyOf described
-chooses-row extra size filling f l info password pack given out v n g r =
-    let z : fillingFor extra (length pack) ≡ filling = ap (fillingFor extra) n ∙ f in
-    let k = sealable extra (length pack) (length out) .1 (record { limited = omega arith; roomy = rw z (omega arith) }) in
-    seal-done info password pack given extra out v k ∙ rw (z, n)
+chooses-row : (extra : Bool) (size count : ℕ) → fillingFor extra size ≡ count → size ≤ 268435456 → Ours (chooses extra size (8 + (size + count)) count)
+unfolding packageLimit sealedSize rounded sealingOf streamOf filledWith sealing sheetStep stepOf ecbUnder sheetKey keyOf described
+chooses-row extra size count f l lock «package» filling out v n g r =
+    let z : fillingFor extra (length «package») ≡ count = ap (fillingFor extra) n ∙ f in
+    let k = sealable extra (length «package») (length out) .1 (record { limited = omega arith; roomy = rw z (omega arith) }) in
+    seal-done lock «package» filling extra out v k ∙ rw (z, n)
 
 -- where the size takes no extra block
-seals-row : (size filling : ℕ) → takesExtra size ≡ false → least size ≡ filling → size ≤ 268435456 → Ours (seals size (8 + (size + filling)) filling)
-seals-row size filling t f l extra = chooses-row extra size filling (untaken extra size t ∙ f) l
+seals-row : (size count : ℕ) → takesExtra size ≡ false → least size ≡ count → size ≤ 268435456 → Ours (seals size (8 + (size + count)) count)
+seals-row size count t f l extra = chooses-row extra size count (untaken extra size t ∙ f) l
 
 module _ (size : ℕ) (h : 268435456 < size) where
-  pack-large : (extra : Bool) (n room : ℕ) → n ≡ size → firstOf (packRules extra n room) ≡ 14
-  unfolding packRules large packageLimit
-  pack-large extra n room e = broke _ _ (lt-ltb 268435456 n (omega arith))
+  package-large : (extra : Bool) (n room : ℕ) → n ≡ size → firstOf (packageRules extra n room) ≡ 14
+  unfolding packageRules sizeRules large packageLimit
+  package-large extra n room e = broke _ _ (lt-ltb 268435456 n (omega arith))
 
   stream-large : (s : List ℕ) (room : ℕ) → 8 ≤ length s → streamSize s ≡ size → firstOf (streamRules s room) ≡ 14
-  unfolding streamRules shortStream large packageLimit
+  unfolding streamRules lengthRules large packageLimit
   stream-large s room l e = held _ _ (le-ltb _ _ l) ∙ broke _ _ (lt-ltb 268435456 (streamSize s) (omega arith))
 
   refuses-row : Ours (refuses size 14)
-  refuses-row info password v = (
-    λ pack given extra out n g.
-        let e : firstOf (packRules extra (length pack) (length out)) ≡ 14 = pack-large extra (length pack) (length out) n in
-        seal-by-pack info password pack given extra out v (λ z. omega arith) ∙ rw e,
+  refuses-row lock v = (
+    λ «package» filling extra out n g.
+        let e : firstOf (sealRules lock extra (length «package») (length out)) ≡ 14 =
+        seal-after lock «package» filling extra out v ∙ package-large extra (length «package») (length out) n in
+        seal-refused lock «package» filling extra out (λ z. omega arith) ∙ rw e,
     λ s out l n.
-        let e : firstOf (streamRules s (length out)) ≡ 14 = stream-large s (length out) l n in
-        open-by-stream info password s out v (λ z. omega arith) ∙ rw e,
+        let e : firstOf (openRules lock s (length out)) ≡ 14 = open-after lock s out v ∙ stream-large s (length out) l n in
+        open-refused lock s out (λ z. omega arith) ∙ rw e,
   )
 
 -- ---- parsing
 
 -- where the first k rules hold those after them decide
-after : (k : ℕ) (info : List ℕ) → AllHold (take k (infoRules info)) → parsed info .answer ≡ firstOf (drop k (infoRules info))
-after k info h =
+after-first : (k : ℕ) (info : List ℕ) → AllHold (take k (infoRules info)) → parsed info .answer ≡ firstOf (drop k (infoRules info))
+after-first k info h =
     parsed-answer info ∙ sym (ap firstOf (take-append-drop k (infoRules info))) ∙ all-hold (take k (infoRules info)) (drop k (infoRules info)) h
 
 abbrev above : ℕ → List Rule → Bool
@@ -81,41 +84,41 @@ first-above m (r ∷ rs) t h =
       | inr e ↦ rw (held r rs e) (first-above m rs (k .1) (rw (held r rs e) at h))
     ]
 
--- past the first k rules none of their numbers is given
+-- past the first k rules none of their numbers is filling
 past : (k low : ℕ) (info : List ℕ) → 0 < low → T (above k (drop k (infoRules info))) → AllHold (take k (infoRules info))
     → Outside low k (parsed info .answer)
 past k low info p t h l u =
-    let e : parsed info .answer ≡ firstOf (drop k (infoRules info)) = after k info h in
+    let e : parsed info .answer ≡ firstOf (drop k (infoRules info)) = after-first k info h in
     let m : k < firstOf (drop k (infoRules info)) = first-above k (drop k (infoRules info)) t (omega arith) in
     omega arith
 
 p8 : Ours (passes (headerSize is 32 ∷ length is 116 ∷ []) 3 4)
-unfolding infoRules badHeaderSize
+unfolding infoRules numbersOf badHeaderSize
 p8 info f h = past 4 3 info (lit< tt) tt (h .0 and h .1 .0 and (rw (f .0)) and (rw (f .0, f .1 .0)) and tt)
 
 p8-other : (n : ℕ) → not (eqb n 116) ≡ true → Ours (answers (headerSize is 32 ∷ length is n ∷ []) 4)
-unfolding infoRules
-p8-other n e info f h = after 3 info h ∙ broke _ _ (rw (f .0, f .1 .0) e)
+unfolding infoRules numbersOf
+p8-other n e info f h = after-first 3 info h ∙ broke _ _ (rw (f .0, f .1 .0) e)
 
 p9 : (n : ℕ) → badHeaderSize n ≡ true → Ours (answers (headerSize is n ∷ []) 3)
-unfolding infoRules
-p9 n e info f h = after 2 info h ∙ broke _ _ (rw (f .0) e)
+unfolding infoRules numbersOf
+p9 n e info f h = after-first 2 info h ∙ broke _ _ (rw (f .0) e)
 
 p10 : (x count : ℕ) → badName 140 x ≡ false → 140 - 32 - x ≡ count
     → Ours (names (headerSize is 140 ∷ length is 224 ∷ sizeExtra is x ∷ []) count)
-unfolding infoRules badHeaderSize described
+unfolding infoRules numbersOf badHeaderSize described
 p10 x count e c info f h = (
   past 5 3 info (lit< tt) tt (h .0 and h .1 .0 and (rw (f .0)) and (rw (f .0, f .1 .0)) and (rw (f .0, f .1 .1 .0) e) and tt),
   λ z. rw (parsed-fields info (sym (parsed-answer info) ∙ z)) (rw (f .0, f .1 .1 .0) c),
 )
 
 p11 : (x : ℕ) → badName 140 x ≡ true → Ours (answers (headerSize is 140 ∷ length is 224 ∷ sizeExtra is x ∷ []) 5)
-unfolding infoRules
-p11 x e info f h = after 4 info h ∙ broke _ _ (rw (f .0, f .1 .1 .0) e)
+unfolding infoRules numbersOf
+p11 x e info f h = after-first 4 info h ∙ broke _ _ (rw (f .0, f .1 .1 .0) e)
 
 p12 : Ours (answers (algId is 0x660f ∷ keySize is 128 ∷ []) 8)
-unfolding infoRules suiteOf
-p12 info f h = after 7 info h ∙ broke _ _ (rw (f .0, f .1 .0))
+unfolding infoRules numbersOf algorithms lookUp suiteOf
+p12 info f h = after-first 7 info h ∙ broke _ _ (rw (f .0, f .1 .0))
 
 -- ---- the table
 

@@ -5,57 +5,58 @@ use mathlib.Core.List.{List}
 use Prim.Native.Nat.{ℕ, _≤_}
 use lib.ListN.{length}
 use Rattle.answers.specs.Rules.{firstOf}
-use Rattle.answers.proofs.Laws.{listed}
+use Rattle.answers.proofs.Laws.{listed-in}
 use Rattle.descriptor.specs.Info.{infoRules, parsed}
-use Rattle.descriptor.proofs.Laws.{parsed-answer, refused-fields}
-use Rattle.password.specs.Verdict.{judged, verdictRules, passwordRules}
-use Rattle.sheet.specs.Frame.{streamSize}
-use Rattle.sheet.specs.Sheet.{sealedSize, openRules, sealRules, streamRules, packRules, packageOf, filledWith, sealingOf, opened, sealed}
-use Rattle.sheet.proofs.Laws.{open-answer, open-zero, seal-answer, seal-zero, length-package, length-sealing, length-filling}
-use Rattle.promises.specs.Demand1.{Parse, Call, Demand1, openNumbers, sealNumbers}
+use Rattle.descriptor.proofs.Laws.{info-numbers, parsed-answer, refused-fields}
+use Rattle.password.specs.Verdict.{judged, verdictRules}
+use Rattle.password.specs.Lock.{Lock}
+use Rattle.password.proofs.Laws.{verdict-numbers}
+use Rattle.lengths.specs.Lengths.{streamSize, sealedSize}
+use Rattle.sheet.specs.Sheet.{openRules, sealRules, packageOf, filledWith, sealingOf, opened, sealed}
+use Rattle.sheet.proofs.Laws.{open-numbers, open-answer, open-zero, seal-numbers, seal-answer, seal-zero, length-package, length-sealing, length-filling}
+use Rattle.promises.specs.Demand1.{Parse, Call, Demand1, infoNumbers, verdictNumbers, openNumbers, sealNumbers}
 use Rattle.promises.proofs.Ended.{ended-call}
 
 parse : (info : List ℕ) → Parse (parsed info)
-unfolding infoRules
 parse info =
     record {
-      answer = rw (parsed-answer info) (listed (infoRules info));
+      answer = rw (parsed-answer info) (listed-in (infoRules info) infoNumbers (info-numbers info));
       refused = λ h. record { none = refl; same = refused-fields info (λ z. h (parsed-answer info ∙ z)) };
     }
 
-module _ (info password : List ℕ) where
+module _ (lock : Lock) where
   -- what opens is as long as StreamSize says, and has room
-  pub open-fits : (s out : List ℕ) → firstOf (openRules info password s (length out)) ≡ 0
-      → (streamSize s ≡ length (packageOf info password s)) × (streamSize s ≤ length out)
+  pub open-fits : (s out : List ℕ) → firstOf (openRules lock s (length out)) ≡ 0
+      → (streamSize s ≡ length (packageOf lock s)) × (streamSize s ≤ length out)
   open-fits s out z =
-      let k = open-zero info password s out (open-answer info password s out ∙ z) .1 in
-      (sym (length-package info password s (length out) k), k .roomy)
+      let k = open-zero lock s out (open-answer lock s out ∙ z) .1 in
+      (sym (length-package lock s (length out) k), k .roomy)
 
-  open-call : (stream out : List ℕ) → Call openNumbers (packageOf info password stream) out (opened info password stream out)
-  unfolding opened openRules verdictRules infoRules passwordRules streamRules
+  open-call : (stream out : List ℕ) → Call openNumbers (packageOf lock stream) out (opened lock stream out)
+  unfolding opened
   open-call s out =
-      ended-call openNumbers (firstOf (openRules info password s (length out))) (streamSize s) (packageOf info password s) out
-      (listed (openRules info password s (length out))) (open-fits s out)
+      ended-call openNumbers (firstOf (openRules lock s (length out))) (streamSize s) (packageOf lock s) out
+      (listed-in (openRules lock s (length out)) openNumbers (open-numbers lock s out)) (open-fits s out)
 
-  seal-call : (pack given : List ℕ) (extra : Bool) (out : List ℕ) → length given ≡ 16
-      → Call sealNumbers (sealingOf info password (filledWith pack given extra)) out (sealed info password pack given extra out)
-  unfolding sealed sealRules verdictRules infoRules passwordRules packRules filledWith
-  seal-call pack given extra out g =
-      ended-call sealNumbers (firstOf (sealRules info password extra (length pack) (length out))) (sealedSize extra (length pack))
-      (sealingOf info password (filledWith pack given extra)) out (listed (sealRules info password extra (length pack) (length out))) fits
+  seal-call : («package» filling : List ℕ) (extra : Bool) (out : List ℕ) → length filling ≡ 16
+      → Call sealNumbers (sealingOf lock (filledWith «package» filling extra)) out (sealed lock «package» filling extra out)
+  unfolding sealed filledWith
+  seal-call «package» filling extra out g =
+      ended-call sealNumbers (firstOf (sealRules lock extra (length «package») (length out))) (sealedSize extra (length «package»))
+      (sealingOf lock (filledWith «package» filling extra)) out (listed-in (sealRules lock extra (length «package») (length out)) sealNumbers (seal-numbers lock «package» filling extra out)) fits
     where
-      fits : firstOf (sealRules info password extra (length pack) (length out)) ≡ 0
-          → (sealedSize extra (length pack) ≡ length (sealingOf info password (filledWith pack given extra))) × (sealedSize extra (length pack) ≤ length out)
+      fits : firstOf (sealRules lock extra (length «package») (length out)) ≡ 0
+          → (sealedSize extra (length «package») ≡ length (sealingOf lock (filledWith «package» filling extra))) × (sealedSize extra (length «package») ≤ length out)
       fits z =
-          let k = seal-zero info password pack given extra out (seal-answer info password pack given extra out ∙ z) .1 in
-          (sym (length-sealing info password (filledWith pack given extra) extra (length-filling pack given extra g)), k .roomy)
+          let k = seal-zero lock «package» filling extra out (seal-answer lock «package» filling extra out ∙ z) .1 in
+          (sym (length-sealing lock (filledWith «package» filling extra) extra (length-filling «package» filling extra g)), k .roomy)
 
 pub demand-1 : Demand1 parsed judged opened sealed
-unfolding judged verdictRules infoRules passwordRules
+unfolding judged
 demand-1 =
     record {
       parsing = λ info. parse info;
-      judging = λ info password. record { answer = listed (verdictRules info password); refused = λ h. record { none = refl; same = refl } };
-      opening = λ info password s out. open-call info password s out;
-      sealing = λ info password pack given extra out g. seal-call info password pack given extra out g;
+      judging = λ lock. record { answer = listed-in (verdictRules lock) verdictNumbers (verdict-numbers lock); refused = λ h. record { none = refl; same = refl } };
+      opening = λ lock s out. open-call lock s out;
+      sealing = λ lock «package» filling extra out g. seal-call lock «package» filling extra out g;
     }

@@ -1,65 +1,72 @@
 -- Our entries keep demand 2: their definitions are what it says, read through the laws of the rules. Assumes nothing.
 use mathlib.Core.Path.{_≡_, ap}
 use mathlib.Core.Bool.{Bool}
-use mathlib.Core.List.{List}
+use mathlib.Core.List.{List, _++_}
 use Prim.Native.Nat.{ℕ, _-_}
 use borrow.Author.Tests.{le-ltb, ltb-false, not-false}
 use lib.ListN.{length}
 use Rattle.octets.proofs.Equal.{same-self, same-true}
 use Rattle.answers.specs.Rules.{AllHold}
+use Rattle.answers.specs.Ended.{ended}
 use Rattle.answers.proofs.Laws.{none-broken, both-hold}
+use Rattle.blocks.specs.Blocks.{ecbUnder}
 use Rattle.descriptor.specs.Info.{infoRules, described, parsed}
 use Rattle.descriptor.proofs.Laws.{info-numbered, parsed-answer, parsed-fields}
-use Rattle.password.specs.Verdict.{keyOf, verifierHash, matches, passwordRules, verdictRules, judged}
-use Rattle.sheet.specs.Frame.{streamSize, streamOf, pairOf}
-use Rattle.sheet.specs.Sheet.{rounded, sealedSize, openRules, sealRules, sheetKey, sealing, opening, packageOf, filledWith, sealingOf}
-use Rattle.sheet.specs.Sheet.{ended, opened, sealed}
-use Rattle.sheet.proofs.Laws.{verdict-numbered, open-numbered, open-answer, seal-numbered, seal-answer}
+use Rattle.password.specs.Verifier.{verifierOpening, matches}
+use Rattle.password.specs.Verdict.{keyOf, earlyRules, textRules, verifierRules, verdictRules, judged}
+use Rattle.password.specs.Lock.{Lock}
+use Rattle.password.proofs.Laws.{verdict-numbered}
+use Rattle.lengths.specs.Lengths.{streamSize, rounded, sealedSize}
+use Rattle.sheet.specs.Frame.{streamOf, pairOf}
+use Rattle.sheet.specs.Scheme.{stepOf}
+use Rattle.sheet.specs.Sheet.{openRules, sealRules, sheetKey, sheetStep, sealing, opening, packageOf, filledWith, sealingOf, opened, sealed}
+use Rattle.sheet.proofs.Laws.{open-numbered, open-answer, seal-numbered, seal-answer}
 use Rattle.promises.specs.Demand2.{Accepts, publishedPackage, publishedStream, Demand2}
 use Rattle.promises.proofs.Ended.{by-rules}
 
-module _ (info password : List ℕ) where
-  to-verdict : judged info password ≡ 0 → Accepts info password
-  unfolding judged verdictRules passwordRules keyOf described matches verifierHash
+module _ (lock : Lock) where
+  to-verdict : judged lock ≡ 0 → Accepts lock
+  unfolding judged verdictRules earlyRules textRules verifierRules keyOf described matches verifierOpening ecbUnder
   to-verdict h =
-      let all : AllHold (verdictRules info password) = none-broken (verdictRules info password) (verdict-numbered info password) .0 h in
-      let k = both-hold (infoRules info) (passwordRules (described info) password) .0 all in
-      (k .0, ltb-false _ _ (k .1 .0), same-true _ _ (not-false _ (k .1 .1 .0)))
+      let all : AllHold (verdictRules lock) = none-broken (verdictRules lock) (verdict-numbered lock) .0 h in
+      let k = both-hold (infoRules (lock .info) ++ textRules (lock .password)) (verifierRules (described (lock .info)) (lock .password)) .0 all in
+      let e = both-hold (infoRules (lock .info)) (textRules (lock .password)) .0 (k .0) in
+      (e .0, ltb-false _ _ (e .1 .0), same-true _ _ (not-false _ (k .1 .0)))
 
-  of-verdict : Accepts info password → judged info password ≡ 0
-  unfolding judged verdictRules passwordRules keyOf described matches verifierHash
+  of-verdict : Accepts lock → judged lock ≡ 0
+  unfolding judged verdictRules earlyRules textRules verifierRules keyOf described matches verifierOpening ecbUnder
   of-verdict h =
-      let two : AllHold (passwordRules (described info) password) = (le-ltb _ _ (h .1), (rw (h .2, same-self), tt)) in
-      none-broken (verdictRules info password) (verdict-numbered info password)
-      .1 (both-hold (infoRules info) (passwordRules (described info) password) .1 (h .0, two))
+      let e = both-hold (infoRules (lock .info)) (textRules (lock .password)) .1 (h .0, (le-ltb _ _ (h .1), tt)) in
+      none-broken (verdictRules lock) (verdict-numbered lock)
+      .1 (both-hold (infoRules (lock .info) ++ textRules (lock .password)) (verifierRules (described (lock .info)) (lock .password)) .1 (e, (rw (h .2, same-self), tt)))
 
-  open-gives : (stream out : List ℕ) → AllHold (openRules info password stream (length out))
-      → opened info password stream out ≡ publishedPackage info password stream out
-  unfolding opened ended packageOf pairOf streamSize opening sheetKey keyOf described
+  open-gives : (stream out : List ℕ) → AllHold (openRules lock stream (length out))
+      → opened lock stream out ≡ publishedPackage lock stream out
+  unfolding opened ended packageOf pairOf streamSize opening sheetStep stepOf ecbUnder sheetKey keyOf described
   open-gives s out h =
-      ap (λ (n : ℕ). ended n (streamSize s) (packageOf info password s) out)
-      (none-broken (openRules info password s (length out)) (open-numbered info password s out) .1 h)
+      ap (λ (n : ℕ). ended n (streamSize s) (packageOf lock s) out)
+      (none-broken (openRules lock s (length out)) (open-numbered lock s out) .1 h)
 
-  seal-gives : (pack given : List ℕ) (extra : Bool) (out : List ℕ) → AllHold (sealRules info password extra (length pack) (length out))
-      → sealed info password pack given extra out ≡ publishedStream info password pack given extra out
-  unfolding sealed ended sealedSize rounded sealingOf streamOf filledWith sealing sheetKey keyOf described
-  seal-gives pack given extra out h =
-      ap (λ (n : ℕ). ended n (sealedSize extra (length pack)) (sealingOf info password (filledWith pack given extra)) out)
-      (none-broken (sealRules info password extra (length pack) (length out)) (seal-numbered info password pack given extra out) .1 h)
+  seal-gives : («package» filling : List ℕ) (extra : Bool) (out : List ℕ) → AllHold (sealRules lock extra (length «package») (length out))
+      → sealed lock «package» filling extra out ≡ publishedStream lock «package» filling extra out
+  unfolding sealed ended sealedSize rounded sealingOf streamOf filledWith sealing sheetStep stepOf ecbUnder sheetKey keyOf described
+  seal-gives «package» filling extra out h =
+      ap (λ (n : ℕ). ended n (sealedSize extra (length «package»)) (sealingOf lock (filledWith «package» filling extra)) out)
+      (none-broken (sealRules lock extra (length «package») (length out)) (seal-numbered lock «package» filling extra out) .1 h)
 
 pub demand-2 : Demand2 parsed judged opened sealed
 unfolding judged
 demand-2 =
     record {
       parse-answer = λ info. rw (parsed-answer info) (by-rules (infoRules info) (info-numbered info));
-      verdict-answer = λ info password. by-rules (verdictRules info password) (verdict-numbered info password);
-      open-answer = λ info password s out.
-          rw (open-answer info password s out) (by-rules (openRules info password s (length out)) (open-numbered info password s out));
-      seal-answer = λ info password pack given extra out g.
-          rw (seal-answer info password pack given extra out)
-          (by-rules (sealRules info password extra (length pack) (length out)) (seal-numbered info password pack given extra out));
+      verdict-answer = λ lock. by-rules (verdictRules lock) (verdict-numbered lock);
+      open-answer = λ lock s out.
+          rw (open-answer lock s out) (by-rules (openRules lock s (length out)) (open-numbered lock s out));
+      seal-answer = λ lock «package» filling extra out g.
+          rw (seal-answer lock «package» filling extra out)
+          (by-rules (sealRules lock extra (length «package») (length out)) (seal-numbered lock «package» filling extra out));
       descriptor = λ info h. parsed-fields info (none-broken (infoRules info) (info-numbered info) .1 h);
-      verdict = λ info password. (λ h. to-verdict info password h, λ h. of-verdict info password h);
-      opening = λ info password s out h. open-gives info password s out h;
-      sealing = λ info password pack given extra out g h. seal-gives info password pack given extra out h;
+      verdict = λ lock. (λ h. to-verdict lock h, λ h. of-verdict lock h);
+      opening = λ lock s out h. open-gives lock s out h;
+      sealing = λ lock «package» filling extra out g h. seal-gives lock «package» filling extra out h;
     }

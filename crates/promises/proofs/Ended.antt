@@ -7,8 +7,8 @@ use lib.Dec.{T}
 use lib.ListN.{length, replicate}
 use lib.Seq.{take-at}
 use Rattle.answers.specs.Rules.{Rule, firstOf, numbered, OneOf}
+use Rattle.answers.specs.Ended.{ended, gives}
 use Rattle.answers.proofs.Laws.{none-broken, first-broken}
-use Rattle.sheet.specs.Sheet.{ended, gives}
 use Rattle.promises.specs.Words.{Answers, writtenPart}
 use Rattle.promises.specs.Demand1.{OnOutput, Call}
 

@@ -7,14 +7,16 @@ use Prim.Native.Nat.{ℕ, zero, suc, _-_}
 use native.Mathlib.Omega.{arith}
 use lib.ListN.{length, replicate}
 use Rattle.answers.specs.Rules.{Rule}
+use Rattle.answers.specs.Ended.{Left, left, reply}
 use Rattle.descriptor.specs.Info.{infoRules, parsed}
 use Rattle.password.specs.Verdict.{judged, verdictRules}
-use Rattle.sheet.specs.Sheet.{Left, left, reply, openRules, sealRules, packageOf, filledWith, sealingOf, opened, sealed}
+use Rattle.password.specs.Lock.{Lock}
+use Rattle.sheet.specs.Sheet.{openRules, sealRules, packageOf, filledWith, sealingOf, opened, sealed}
 use Rattle.promises.specs.Words.{Parser, Judge, Opener, Sealer, Answers}
 use Rattle.promises.specs.Demand1.{Call, Demand1, openNumbers, sealNumbers}
 use Rattle.promises.specs.Demand2.{Demand2}
-use Rattle.promises.proofs.Demand1.{demand-1}
 use Rattle.promises.specs.NewInfo.{Input, Typed, Writer, rulesFor, infoFor, writeNumbers, NewInfo}
+use Rattle.promises.proofs.Demand1.{demand-1}
 use Rattle.promises.proofs.Demand2.{demand-2}
 use Rattle.promises.proofs.NewInfo.{writes, new-info}
 
@@ -45,8 +47,8 @@ module _ (numbers content out : List ℕ) (x y : Left) (c : Call numbers content
 
 module _ (parses : Parser) (judges : Judge) (opens : Opener) (seals : Sealer)
     (one : Demand1 parses judges opens seals) (two : Demand2 parses judges opens seals) where
-  pub the-judge : (info password : List ℕ) → judges info password ≡ judged info password
-  the-judge info password = one-answer (verdictRules info password) _ _ (two .verdict-answer info password) (demand-2 .verdict-answer info password)
+  pub the-judge : (lock : Lock) → judges lock ≡ judged lock
+  the-judge lock = one-answer (verdictRules lock) _ _ (two .verdict-answer lock) (demand-2 .verdict-answer lock)
 
   module _ (info : List ℕ) where
     same-answer : parses info .answer ≡ parsed info .answer
@@ -62,20 +64,20 @@ module _ (parses : Parser) (judges : Judge) (opens : Opener) (seals : Sealer)
     pub the-parser : parses info ≡ parsed info
     the-parser = λ i. record { answer = same-answer i; fields = same-fields (parses info .answer) refl i }
 
-  pub the-opener : (info password stream out : List ℕ) → opens info password stream out ≡ opened info password stream out
-  the-opener info password s out =
-      let e : opens info password s out .reply .answer ≡ opened info password s out .reply .answer =
-      one-answer (openRules info password s (length out)) _ _ (two .open-answer info password s out) (demand-2 .open-answer info password s out) in
-      one-left openNumbers (packageOf info password s) out _ _ (one .opening info password s out) (demand-1 .opening info password s out) e
+  pub the-opener : (lock : Lock) (stream out : List ℕ) → opens lock stream out ≡ opened lock stream out
+  the-opener lock s out =
+      let e : opens lock s out .reply .answer ≡ opened lock s out .reply .answer =
+      one-answer (openRules lock s (length out)) _ _ (two .open-answer lock s out) (demand-2 .open-answer lock s out) in
+      one-left openNumbers (packageOf lock s) out _ _ (one .opening lock s out) (demand-1 .opening lock s out) e
 
-  pub the-sealer : (info password pack given : List ℕ) (extra : Bool) (out : List ℕ) → length given ≡ 16
-      → seals info password pack given extra out ≡ sealed info password pack given extra out
-  the-sealer info password pack given extra out g =
-      let e : seals info password pack given extra out .reply .answer ≡ sealed info password pack given extra out .reply .answer =
-      one-answer (sealRules info password extra (length pack) (length out)) _ _
-      (two .seal-answer info password pack given extra out g) (demand-2 .seal-answer info password pack given extra out g) in
-      one-left sealNumbers (sealingOf info password (filledWith pack given extra)) out _ _
-      (one .sealing info password pack given extra out g) (demand-1 .sealing info password pack given extra out g) e
+  pub the-sealer : (lock : Lock) («package» filling : List ℕ) (extra : Bool) (out : List ℕ) → length filling ≡ 16
+      → seals lock «package» filling extra out ≡ sealed lock «package» filling extra out
+  the-sealer lock «package» filling extra out g =
+      let e : seals lock «package» filling extra out .reply .answer ≡ sealed lock «package» filling extra out .reply .answer =
+      one-answer (sealRules lock extra (length «package») (length out)) _ _
+      (two .seal-answer lock «package» filling extra out g) (demand-2 .seal-answer lock «package» filling extra out g) in
+      one-left sealNumbers (sealingOf lock (filledWith «package» filling extra)) out _ _
+      (one .sealing lock «package» filling extra out g) (demand-1 .sealing lock «package» filling extra out g) e
 
 pub the-writer : (w : Writer) (parses : Parser) (judges : Judge) (opens : Opener) (seals : Sealer) → NewInfo w parses judges opens seals
     → (i : Input) (out : List ℕ) → Typed i → w i out ≡ writes i out

@@ -6,15 +6,19 @@ use Prim.Native.Nat.{ℕ, _+_}
 use lib.ListN.{length}
 use lib.Seq.{take-at}
 use Rattle.answers.specs.Rules.{firstOf}
-use Rattle.answers.proofs.Laws.{listed}
+use Rattle.answers.specs.Ended.{Left}
+use Rattle.answers.proofs.Laws.{listed-in}
+use Rattle.blocks.specs.Blocks.{ecbUnder}
 use Rattle.descriptor.specs.Info.{parsed}
 use Rattle.descriptor.specs.declared.Descriptor.{Descriptor}
 use Rattle.descriptor.proofs.Laws.{parsed-answer, parsed-fields}
+use Rattle.password.specs.Verifier.{verifierSealing, verifierPlain, verifierField, hashField}
+use Rattle.password.specs.Lock.{lockOf}
 use Rattle.password.specs.Verdict.{judged}
-use Rattle.sheet.specs.Sheet.{Left, opened, sealed}
+use Rattle.sheet.specs.Sheet.{opened, sealed}
+use Rattle.writer.specs.Written.{infoSize}
 use Rattle.writer.specs.Written as Written
-use Rattle.writer.specs.Written.{infoSize, writeRules, verifierField, hashField}
-use Rattle.writer.proofs.Laws.{writable, write-numbered, write-answer, write-done}
+use Rattle.writer.proofs.Laws.{writable, write-numbered, write-numbers, write-answer, write-done}
 use Rattle.writer.proofs.Back.{Given, newDescriptor, info-admitted, info-described, info-name, info-accepted, length-info}
 use Rattle.promises.specs.Words.{Accepted, writtenPart}
 use Rattle.promises.specs.Demand1.{Call}
@@ -38,27 +42,27 @@ module _ (i : Input) (out : List ℕ) (t : Typed i) where
         verifier-long = t .verifier;
         filling-long = t .filling;
         room = length out;
-        fits = writable (i .bits) (length (i .password)) (length (i .name)) (length out) .0 z;
+        fits = writable (i .bits) (i .password) (length (i .name)) (length out) .0 z;
       }
 
   long : firstOf (rulesFor i (length out)) ≡ 0 → length (infoFor i) ≡ 116 + length (i .name)
   long z = length-info (i .bits) (i .password) (i .name) (i .salt) (i .verifier) (i .filling) (given z)
 
   call : Call writeNumbers (infoFor i) out (writes i out)
-  unfolding writes Written.written writeRules infoSize given
+  unfolding writes Written.written infoSize given
   call =
-      ended-call writeNumbers (firstOf (rulesFor i (length out))) (infoSize (length (i .name))) (infoFor i) out (listed (rulesFor i (length out)))
+      ended-call writeNumbers (firstOf (rulesFor i (length out))) (infoSize (length (i .name))) (infoFor i) out (listed-in (rulesFor i (length out)) writeNumbers (write-numbers (i .bits) (i .password) (length (i .name)) (length out)))
       (λ z. (sym (long z), given z .fits .roomy))
 
   to-within : Accepted (writes i out) → Within i (length out)
   to-within a =
-      let w = writable (i .bits) (length (i .password)) (length (i .name)) (length out) .0 (sym answered ∙ a) in
+      let w = writable (i .bits) (i .password) (length (i .name)) (length out) .0 (sym answered ∙ a) in
       record { name = w .short; even = w .even; bits = w .key; password = w .typed; fits = w .roomy }
 
   of-within : Within i (length out) → Accepted (writes i out)
   of-within w =
       answered
-      ∙ writable (i .bits) (length (i .password)) (length (i .name)) (length out)
+      ∙ writable (i .bits) (i .password) (length (i .name)) (length out)
       .1 (record { short = w .name; even = w .even; key = w .bits; typed = w .password; roomy = w .fits })
 
   module _ (a : Accepted (writes i out)) where
@@ -81,20 +85,20 @@ module _ (i : Input) (out : List ℕ) (t : Typed i) where
         parsed-fields (infoFor i) (info-admitted _ _ _ _ _ _ g) ∙ info-described _ _ _ _ _ _ g
 
     back : GivesBack parsed judged i (infoFor i)
-    unfolding verifierField hashField
+    unfolding verifierField hashField verifierSealing verifierPlain ecbUnder
     back =
         let g = given zero-is in
         record {
           answer = parsed-answer (infoFor i) ∙ info-admitted _ _ _ _ _ _ g;
           major = ap (λ (d : Descriptor). d .major) fields;
           minor = ap (λ (d : Descriptor). d .minor) fields;
-          alg = ap (λ (d : Descriptor). d .alg) fields;
-          key = ap (λ (d : Descriptor). d .key .0) fields;
-          place = ap (λ (d : Descriptor). d .place) fields;
-          name = ap (λ (d : Descriptor). d .name) fields;
+          alg = ap (λ (d : Descriptor). d .«alg_id») fields;
+          key = ap (λ (d : Descriptor). d .«key_size» .0) fields;
+          place = ap (λ (d : Descriptor). d .«name_place») fields;
+          name = ap (λ (d : Descriptor). d .«name_length») fields;
           salt = ap (λ (d : Descriptor). d .salt) fields;
-          verifier = ap (λ (d : Descriptor). d .verifier) fields;
-          hash = ap (λ (d : Descriptor). d .hash) fields;
+          verifier = ap (λ (d : Descriptor). d .«encrypted_verifier») fields;
+          hash = ap (λ (d : Descriptor). d .«encrypted_verifier_hash») fields;
           named = info-name _ _ _ _ _ _ g;
           verdict = info-accepted _ _ _ _ _ _ g;
         }
@@ -110,5 +114,5 @@ new-info =
       call = call;
       size = size;
       back = written-back;
-      opening = λ i out t a p w. demand-3 .under (writtenPart (writes i out)) (i .password) (written-back i out t a .verdict) .a p w;
+      opening = λ i out t a p w. demand-3 .under (lockOf (writtenPart (writes i out)) (i .password)) (written-back i out t a .verdict) .a p w;
     }

@@ -8,6 +8,8 @@ use Prim.Native.Nat.{ℕ, zero, suc}
 use native.Mathlib.Omega.{arith}
 use lib.ListN.{length}
 use Rattle.answers.specs.Rules.{Rule, AllHold, OneOf}
+use Rattle.answers.specs.Ended.{Left, left, reply}
+use Rattle.answers.specs.declared.Reply.{Reply}
 use Rattle.sha1.specs.Sha1.{sha1, hashRules, hashed}
 use Rattle.sha1.specs.declared.Hashed.{Hashed}
 use Rattle.aes.specs.Aes.{encryption, decryption, encrypted, decrypted}
@@ -15,11 +17,11 @@ use Rattle.aes.specs.declared.Reply as Aes
 use Rattle.descriptor.specs.Info.{infoRules, described, parsed}
 use Rattle.descriptor.specs.declared.Parsed.{Parsed}
 use Rattle.password.specs.Verdict.{judged, verdictRules}
-use Rattle.sheet.specs.Sheet.{Left, left, reply, openRules, sealRules, packageOf, filledWith, sealingOf, opened, sealed}
-use Rattle.sheet.specs.declared.Reply.{Reply}
-use Rattle.files.specs.Files.{File, units, rules, filesOpened}
+use Rattle.password.specs.Lock.{Lock, lockOf}
+use Rattle.sheet.specs.Sheet.{openRules, sealRules, packageOf, filledWith, sealingOf, opened, sealed}
 use Rattle.capi.specs.Capi as Capi
 use Rattle.capi.proofs.Lossless.{verdict-told, open-told, seal-told, write-told, length-sixteen, length-twelve}
+use Rattle.files.specs.Files.{File, units, rules, filesOpened}
 use Rattle.promises.specs.Words.{Answers}
 use Rattle.promises.specs.Demand1.{Concludes, infoNumbers, openNumbers, sealNumbers}
 use Rattle.promises.specs.NewInfo.{Input, Typed, rulesFor, infoFor, writeNumbers}
@@ -79,20 +81,20 @@ one-parsing info p k =
     let e = one-ruled (infoRules info) _ _ (described info) _ _ _ _ (k .answers) (d .answers) (k .ends) (d .ends) (k .published) (d .published) in
     λ i. record { answer = e .0 i; fields = e .1 i }
 
-pub one-judging : (info password : List ℕ) (n : ℕ) → Judging info password n → n ≡ judged info password
-one-judging info password n k = one-answer (verdictRules info password) _ _ (k .answers) (judging info password .answers)
+pub one-judging : (lock : Lock) (n : ℕ) → Judging lock n → n ≡ judged lock
+one-judging lock n k = one-answer (verdictRules lock) _ _ (k .answers) (judging lock .answers)
 
-pub one-opening : (info password stream out : List ℕ) (l : Left) → Opening info password stream out l → l ≡ opened info password stream out
-one-opening info password s out l k =
-    let d = opening info password s out in
-    one-left openNumbers (packageOf info password s) out _ _ (k .call) (d .call) (one-answer (openRules info password s (length out)) _ _ (k .answers) (d .answers))
+pub one-opening : (lock : Lock) (stream out : List ℕ) (l : Left) → Opening lock stream out l → l ≡ opened lock stream out
+one-opening lock s out l k =
+    let d = opening lock s out in
+    one-left openNumbers (packageOf lock s) out _ _ (k .call) (d .call) (one-answer (openRules lock s (length out)) _ _ (k .answers) (d .answers))
 
-pub one-sealing : (info password pack given : List ℕ) (extra : Bool) (out : List ℕ) → length given ≡ 16 → (l : Left)
-    → Sealing info password pack given extra out l → l ≡ sealed info password pack given extra out
-one-sealing info password pack given extra out g l k =
-    let d = sealing info password pack given extra out g in
-    one-left sealNumbers (sealingOf info password (filledWith pack given extra)) out _ _ (k .call) (d .call)
-    (one-answer (sealRules info password extra (length pack) (length out)) _ _ (k .answers) (d .answers))
+pub one-sealing : (lock : Lock) («package» filling : List ℕ) (extra : Bool) (out : List ℕ) → length filling ≡ 16 → (l : Left)
+    → Sealing lock «package» filling extra out l → l ≡ sealed lock «package» filling extra out
+one-sealing lock «package» filling extra out g l k =
+    let d = sealing lock «package» filling extra out g in
+    one-left sealNumbers (sealingOf lock (filledWith «package» filling extra)) out _ _ (k .call) (d .call)
+    (one-answer (sealRules lock extra (length «package») (length out)) _ _ (k .answers) (d .answers))
 
 pub one-writing : (i : Input) (out : List ℕ) → Typed i → (l : Left) → Writing i out l → l ≡ writes i out
 one-writing i out t l k =
@@ -102,7 +104,7 @@ one-writing i out t l k =
 pub one-files : (info password stream : File) (out : List ℕ) (l : Left) → FilesOpening info password stream out l → l ≡ filesOpened info password stream out
 one-files info password s out l k =
     let d = opening-files info password s out in
-    one-left fileNumbers (packageOf (info .bytes) (units (password .bytes)) (s .bytes)) out _ _ (k .call) (d .call)
+    one-left fileNumbers (packageOf (lockOf (info .bytes) (units (password .bytes))) (s .bytes)) out _ _ (k .call) (d .call)
     (one-answer (rules info password s (length out)) _ _ (k .answers) (d .answers))
 
 -- ---- the same from C
@@ -147,21 +149,21 @@ module _ (w : ℕ) (now : List ℕ) where
       one-outcome w now _
       (one-value infoNumbers (Capi.descriptorBytes (described info)) out _ _ (k .value) (d .value) (one-answer (infoRules info) _ _ (k .answers) (d .answers)))
 
-  pub c-judging : (info password : List ℕ) → VerdictOut info password (Capi.told w) → w ≡ Capi.verdictWord info password
-  c-judging info password k =
-      let n = one-judging info password _ (k .judged) in
-      let r : Capi.told w ≡ reply (judged info password) 0 = λ i. reply (n i) (k .sizeless i) in
-      one-told w _ (r ∙ sym (verdict-told info password))
+  pub c-judging : (lock : Lock) → VerdictOut lock (Capi.told w) → w ≡ Capi.verdictWord lock
+  c-judging lock k =
+      let n = one-judging lock _ (k .judged) in
+      let r : Capi.told w ≡ reply (judged lock) 0 = λ i. reply (n i) (k .sizeless i) in
+      one-told w _ (r ∙ sym (verdict-told lock))
 
-  pub c-opening : (info password stream out : List ℕ) → Opening info password stream out (left (Capi.told w) now)
-      → Capi.outcome w now ≡ Capi.openOutcome info password stream out
-  c-opening info password s out k = one-outcome w now _ (one-opening info password s out _ k ∙ sym (open-told info password s out))
+  pub c-opening : (lock : Lock) (stream out : List ℕ) → Opening lock stream out (left (Capi.told w) now)
+      → Capi.outcome w now ≡ Capi.openOutcome lock stream out
+  c-opening lock s out k = one-outcome w now _ (one-opening lock s out _ k ∙ sym (open-told lock s out))
 
-  pub c-sealing : (info password pack : List ℕ) (low high extra : ℕ) (out : List ℕ)
-      → Sealing info password pack (Capi.sixteen low high) (Capi.chosen extra) out (left (Capi.told w) now)
-      → Capi.outcome w now ≡ Capi.sealOutcome info password pack low high extra out
-  c-sealing info password pack low high extra out k =
-      one-outcome w now _ (one-sealing info password pack _ _ out (length-sixteen low high) _ k ∙ sym (seal-told info password pack low high extra out))
+  pub c-sealing : (lock : Lock) («package» : List ℕ) (low high extra : ℕ) (out : List ℕ)
+      → Sealing lock «package» (Capi.sixteen low high) (Capi.chosen extra) out (left (Capi.told w) now)
+      → Capi.outcome w now ≡ Capi.sealOutcome lock «package» low high extra out
+  c-sealing lock «package» low high extra out k =
+      one-outcome w now _ (one-sealing lock «package» _ _ out (length-sixteen low high) _ k ∙ sym (seal-told lock «package» low high extra out))
 
   pub c-writing : (bits : ℕ) (password name : List ℕ) (sl sh vl vh fl fh : ℕ) (out : List ℕ)
       → Writing (input (Capi.bitCount bits .0) password name (Capi.sixteen sl sh) (Capi.sixteen vl vh) (Capi.twelve fl fh)) out (left (Capi.told w) now)

@@ -8,12 +8,13 @@ use Prim.Native.Nat.{ℕ, zero, suc}
 use native.Mathlib.Omega.{arith}
 use lib.ListN.{length}
 use Rattle.answers.specs.Rules.{OneOf}
+use Rattle.answers.specs.Ended.{Left, left, reply}
+use Rattle.answers.specs.declared.Reply.{Reply}
 use Rattle.sha1.specs.Sha1.{sha1, hashRules, hashed}
 use Rattle.aes.specs.Aes.{keyLength, encryption, decryption, encrypted, decrypted}
 use Rattle.aes.specs.declared.Reply as Aes
 use Rattle.descriptor.specs.Info.{infoRules, described, parsed}
-use Rattle.sheet.specs.Sheet.{Left, left, reply}
-use Rattle.sheet.specs.declared.Reply.{Reply}
+use Rattle.password.specs.Lock.{Lock}
 use Rattle.capi.specs.Capi as Capi
 use Rattle.capi.proofs.Lossless.{hash-told, encrypt-told, decrypt-told, parse-told, verdict-told, open-told, seal-told, write-told, length-sixteen, length-twelve}
 use Rattle.promises.specs.Words.{Answers}
@@ -78,20 +79,20 @@ descriptor-out info out =
       answers = subst⁻¹ (λ (r : Reply). Answers (infoRules info) (r .answer)) (parse-told info out) (k .answers);
     }
 
-module _ (info password : List ℕ) where
-  pub verdict-out : VerdictOut info password (Capi.told (Capi.verdictWord info password))
-  verdict-out = subst⁻¹ (VerdictOut info password) (verdict-told info password) (record { judged = judging info password; sizeless = refl })
+module _ (lock : Lock) where
+  pub verdict-out : VerdictOut lock (Capi.told (Capi.verdictWord lock))
+  verdict-out = subst⁻¹ (VerdictOut lock) (verdict-told lock) (record { judged = judging lock; sizeless = refl })
 
   -- ---- a lent output
 
-  pub open-out : (stream out : List ℕ) → Opening info password stream out (Capi.readBack (Capi.openOutcome info password stream out))
-  open-out s out = subst⁻¹ (Opening info password s out) (open-told info password s out) (opening info password s out)
+  pub open-out : (stream out : List ℕ) → Opening lock stream out (Capi.readBack (Capi.openOutcome lock stream out))
+  open-out s out = subst⁻¹ (Opening lock s out) (open-told lock s out) (opening lock s out)
 
-  pub seal-out : (pack : List ℕ) (low high extra : ℕ) (out : List ℕ)
-      → Sealing info password pack (Capi.sixteen low high) (Capi.chosen extra) out (Capi.readBack (Capi.sealOutcome info password pack low high extra out))
-  seal-out pack low high extra out =
-      subst⁻¹ (Sealing info password pack _ _ out) (seal-told info password pack low high extra out)
-      (sealing info password pack _ _ out (length-sixteen low high))
+  pub seal-out : («package» : List ℕ) (low high extra : ℕ) (out : List ℕ)
+      → Sealing lock «package» (Capi.sixteen low high) (Capi.chosen extra) out (Capi.readBack (Capi.sealOutcome lock «package» low high extra out))
+  seal-out «package» low high extra out =
+      subst⁻¹ (Sealing lock «package» _ _ out) (seal-told lock «package» low high extra out)
+      (sealing lock «package» _ _ out (length-sixteen low high))
 
 pub write-out : (bits : ℕ) (password name : List ℕ) (saltLow saltHigh verifierLow verifierHigh fillingLow fillingHigh : ℕ) (out : List ℕ)
     → let salt = Capi.sixteen saltLow saltHigh in

@@ -1,7 +1,7 @@
 -- Instances of what the promises take for granted. Nothing is computed on a package: its length is a law. Assumes nothing.
 use mathlib.Core.Path.{_≡_, refl, ap, _∙_}
 use mathlib.Core.Bool.{Bool, true, false}
-use mathlib.Core.List.{List, [], _∷_, _++_}
+use mathlib.Core.List.{List, [], _∷_, _++_, flatMap}
 use Prim.Native.Nat.{ℕ, _-_, _%_, _^_, _≤_, _<_}
 use native.Mathlib.Omega.{arith}
 use lib.Dec.{lit<, lit≤}
@@ -11,20 +11,21 @@ use Rattle.octets.specs.Octets.{Bytes, le, leAt, leBytes}
 use Rattle.octets.proofs.Below.{nil-bytes, replicate-below, leBytes-bytes}
 use Rattle.octets.proofs.Numbers.{length-leBytes, le-leBytes}
 use Rattle.answers.specs.Rules.{OneOf, firstOf}
-use Rattle.descriptor.specs.Info as Info
+use Rattle.answers.proofs.Rows.{_and_}
 use Rattle.descriptor.specs.Info.{parsed}
-use Rattle.descriptor.specs.LaidOut.{laidOut, front, verifier, fourBytesEach}
+use Rattle.descriptor.specs.LaidOut.{laidOut, front, verifier}
+use Rattle.descriptor.specs.Info as Info
 use Rattle.password.specs.Verdict.{judged}
-use Rattle.sheet.specs.Frame.{Pair, Lawful, streamSize}
-use Rattle.sheet.specs.Sheet.{packageLimit, lengths, filledWith}
-use Rattle.sheet.proofs.Fillings.{filling-most}
+use Rattle.lengths.specs.Lengths.{streamSize, packageLimit}
+use Rattle.lengths.proofs.Fillings.{filling-most}
+use Rattle.sheet.specs.Frame.{Pair, Lawful}
+use Rattle.sheet.specs.Sheet.{lengths, filledWith}
 use Rattle.sheet.proofs.Laws.{filled-lawful, length-filling, filling-chosen}
 use Rattle.writer.specs.Written.{infoOf}
 use Rattle.writer.proofs.Back.{Given, info-bytes, info-bits, info-accepted}
 use Rattle.promises.specs.ExtraBlock.{Takes}
 use Rattle.promises.specs.Cases.{table}
 use Rattle.promises.specs.Possible.{Locks, Fills, Begun, Long, Told, Instances, Possible}
-use Rattle.answers.proofs.Rows.{_and_}
 
 -- ---- accepted passwords
 
@@ -33,16 +34,16 @@ locks : (bits : ℕ) → OneOf (128 ∷ 192 ∷ 256 ∷ []) bits → (password :
 locks bits k password l =
     record {
       info = infoOf bits password [] (replicate 16 0) (replicate 16 0) (replicate 12 0);
-      bytes = info-bytes bits password [] _ _ _ given nil-bytes (zeros 16) (zeros 16) (zeros 12);
-      size = info-bits bits password [] _ _ _ given;
-      verdict = info-accepted bits password [] _ _ _ given;
+      bytes = info-bytes bits password [] _ _ _ filling nil-bytes (zeros 16) (zeros 16) (zeros 12);
+      size = info-bits bits password [] _ _ _ filling;
+      verdict = info-accepted bits password [] _ _ _ filling;
     }
   where
     zeros : (n : ℕ) → Bytes (replicate n 0)
     zeros n = replicate-below n 0 (omega arith)
 
-    given : Given bits password [] (replicate 16 0) (replicate 16 0) (replicate 12 0)
-    given =
+    filling : Given bits password [] (replicate 16 0) (replicate 16 0) (replicate 12 0)
+    filling =
         record {
           salt-long = refl;
           verifier-long = refl;
@@ -71,44 +72,44 @@ unfolding packageLimit filledWith
 fills extra size h = filled (long size) (long 16)
   where
     filled : Long size → Long 16 → Fills extra size
-    filled pack given =
-        let n = length-filling (pack .it) (given .it) extra (given .long) in
+    filled «package» filling =
+        let n = length-filling («package» .it) (filling .it) extra (filling .long) in
         record {
-          it = filledWith (pack .it) (given .it) extra;
-          lawful = filled-lawful (pack .it) (given .it) extra (given .long) (pack .bytes) (given .bytes) (omega (arith, pack .long));
-          sized = pack .long;
-          given = given .it;
-          begins = record { sixteen = given .long; chosen = n; begins = rw n };
+          it = filledWith («package» .it) (filling .it) extra;
+          lawful = filled-lawful («package» .it) (filling .it) extra (filling .long) («package» .bytes) (filling .bytes) (omega (arith, «package» .long));
+          sized = «package» .long;
+          filling = filling .it;
+          begins = record { sixteen = filling .long; chosen = n; begins = rw n };
         }
 
 -- a filling, with zeros to sixteen bytes
 begun : (p : Pair) → Lawful lengths p → Begun p
 begun p w =
     let k = filling-chosen p w in
-    let zeros : List ℕ = replicate (16 - length (p .fill)) 0 in
-    let few : length (p .fill) ≤ 16 = omega (arith, k .1, filling-most (k .0) (length (p .pack))) in
+    let zeros : List ℕ = replicate (16 - length (p .filling)) 0 in
+    let few : length (p .filling) ≤ 16 = omega (arith, k .1, filling-most (k .0) (length (p .«package»))) in
     record {
-      given = p .fill ++ zeros;
+      filling = p .filling ++ zeros;
       extra = k .0;
       begins = record {
         sixteen = simp (length-append, length-replicate) (omega arith);
         chosen = k .1;
-        begins = take-at (p .fill) zeros (length (p .fill)) refl;
+        begins = take-at (p .filling) zeros (length (p .filling)) refl;
       };
     }
 
-extra : (size : ℕ) → 0 < size → size % 4096 ≡ 0 → size ≤ 268435456 → (pack : Long size) × (given : Long 16) × Takes (pack .it) (given .it)
+extra : (size : ℕ) → 0 < size → size % 4096 ≡ 0 → size ≤ 268435456 → («package» : Long size) × (filling : Long 16) × Takes («package» .it) (filling .it)
 extra size p m l = (long size, long 16, taking (long size) (long 16))
   where
-    taking : (pack : Long size) (given : Long 16) → Takes (pack .it) (given .it)
-    taking pack given =
+    taking : («package» : Long size) (filling : Long 16) → Takes («package» .it) (filling .it)
+    taking «package» filling =
         record {
-          pack-bytes = pack .bytes;
-          given-bytes = given .bytes;
-          sixteen = given .long;
-          some = rw (pack .long) p;
-          multiple = rw (pack .long) m;
-          limited = rw (pack .long) l;
+          package-bytes = «package» .bytes;
+          filling-bytes = filling .bytes;
+          sixteen = filling .long;
+          some = rw («package» .long) p;
+          multiple = rw («package» .long) m;
+          limited = rw («package» .long) l;
         }
 
 -- ---- rows
@@ -139,8 +140,8 @@ sample header extra alg bits name n =
     })
 
 rows : Instances parsed table
-unfolding sample laidOut front verifier fourBytesEach leBytes leAt le parsed firstOf Info.infoRules Info.major Info.minor Info.headerSize Info.sizeExtra Info.algId
-    Info.algIdHash Info.keySize Info.saltSize Info.verifierHashSize Info.badVersion Info.badHeaderSize Info.badName Info.suiteOf
+unfolding sample laidOut front verifier flatMap leBytes leAt le parsed firstOf Info.infoRules Info.numbersOf Info.major Info.minor Info.headerSize Info.sizeExtra Info.algId
+    Info.algIdHash Info.keySize Info.saltSize Info.verifierHashSize Info.badVersion Info.badHeaderSize Info.badName Info.algorithms Info.lookUp Info.suiteOf
 rows =
     (λ extra. (fills extra 0 (lit≤ tt), long 8))  -- P1
     and (λ extra. (fills extra 1 (lit≤ tt), long 24))  -- P2

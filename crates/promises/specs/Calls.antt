@@ -7,6 +7,8 @@ use mathlib.Core.List.{List, _++_}
 use Prim.Native.Nat.{ℕ, _+_, _-_, _≤_}
 use lib.ListN.{length, replicate}
 use Rattle.answers.specs.Rules.{AllHold}
+use Rattle.answers.specs.Ended.{Left, left, gives}
+use Rattle.answers.specs.declared.Reply.{Reply}
 use Rattle.sha1.specs.Sha1.{sha1, hashRules}
 use Rattle.sha1.specs.declared.Hashed.{Hashed}
 use Rattle.aes.specs.Aes.{keyLength}
@@ -14,10 +16,11 @@ use Rattle.aes.specs.declared.Reply as Aes
 use Rattle.descriptor.specs.Info.{infoRules, described}
 use Rattle.descriptor.specs.declared.Parsed.{Parsed}
 use Rattle.password.specs.Verdict.{verdictRules}
-use Rattle.sheet.specs.declared.Reply.{Reply}
-use Rattle.sheet.specs.Sheet.{Left, left, fillingFor, openRules, sealRules, packageOf, filledWith, sealingOf, sealed, gives}
-use Rattle.files.specs.Files.{File, units, rules}
+use Rattle.password.specs.Lock.{Lock, lockOf}
+use Rattle.lengths.specs.Lengths.{fillingFor}
+use Rattle.sheet.specs.Sheet.{openRules, sealRules, packageOf, filledWith, sealingOf, sealed}
 use Rattle.capi.specs.Capi.{descriptorBytes}
+use Rattle.files.specs.Files.{File, units, rules}
 use Rattle.promises.specs.Words.{Accepted, Answers, writtenPart}
 use Rattle.promises.specs.Demand1.{OnOutput, Untouched, Call, Parse, Verdict, infoNumbers, openNumbers, sealNumbers}
 use Rattle.promises.specs.Demand2.{Accepts, publishedPackage, publishedStream}
@@ -43,20 +46,20 @@ pub record Parsing (info : List ℕ) (p : Parsed) : Type 0 where
   pub answers : Answers (infoRules info) (p .answer)
   pub published : AllHold (infoRules info) → p .fields ≡ described info
 
-pub record Judging (info password : List ℕ) (n : ℕ) : Type 0 where
+pub record Judging (lock : Lock) (n : ℕ) : Type 0 where
   pub ends : Verdict n
-  pub answers : Answers (verdictRules info password) n
-  pub published : (n ≡ 0) ↔ Accepts info password
+  pub answers : Answers (verdictRules lock) n
+  pub published : (n ≡ 0) ↔ Accepts lock
 
-pub record Opening (info password stream out : List ℕ) (l : Left) : Type 0 where
-  pub call : Call openNumbers (packageOf info password stream) out l
-  pub answers : Answers (openRules info password stream (length out)) (l .reply .answer)
-  pub published : AllHold (openRules info password stream (length out)) → l ≡ publishedPackage info password stream out
+pub record Opening (lock : Lock) (stream out : List ℕ) (l : Left) : Type 0 where
+  pub call : Call openNumbers (packageOf lock stream) out l
+  pub answers : Answers (openRules lock stream (length out)) (l .reply .answer)
+  pub published : AllHold (openRules lock stream (length out)) → l ≡ publishedPackage lock stream out
 
-pub record Sealing (info password pack given : List ℕ) (extra : Bool) (out : List ℕ) (l : Left) : Type 0 where
-  pub call : Call sealNumbers (sealingOf info password (filledWith pack given extra)) out l
-  pub answers : Answers (sealRules info password extra (length pack) (length out)) (l .reply .answer)
-  pub published : AllHold (sealRules info password extra (length pack) (length out)) → l ≡ publishedStream info password pack given extra out
+pub record Sealing (lock : Lock) («package» filling : List ℕ) (extra : Bool) (out : List ℕ) (l : Left) : Type 0 where
+  pub call : Call sealNumbers (sealingOf lock (filledWith «package» filling extra)) out l
+  pub answers : Answers (sealRules lock extra (length «package») (length out)) (l .reply .answer)
+  pub published : AllHold (sealRules lock extra (length «package») (length out)) → l ≡ publishedStream lock «package» filling extra out
 
 -- what comes in to the writer
 abbrev pub input : (bits : ℕ) (password name salt verifier filling : List ℕ) → Input
@@ -71,7 +74,7 @@ pub record Writing (i : Input) (out : List ℕ) (l : Left) : Type 0 where
 
 -- the program's three files, opened
 pub record FilesOpening (info password stream : File) (out : List ℕ) (l : Left) : Type 0 where
-  pub call : Call fileNumbers (packageOf (info .bytes) (units (password .bytes)) (stream .bytes)) out l
+  pub call : Call fileNumbers (packageOf (lockOf (info .bytes) (units (password .bytes))) (stream .bytes)) out l
   pub answers : Answers (rules info password stream (length out)) (l .reply .answer)
 
 -- ---- one call from C, with the reply that its number tells; one that opens, seals or writes is as above
@@ -94,38 +97,38 @@ pub record DescriptorOut (info out : List ℕ) (l : Left) : Type 0 where
   pub value : Value infoNumbers (descriptorBytes (described info)) out l
   pub answers : Answers (infoRules info) (l .reply .answer)
 
-pub record VerdictOut (info password : List ℕ) (r : Reply) : Type 0 where
-  pub judged : Judging info password (r .answer)
+pub record VerdictOut (lock : Lock) (r : Reply) : Type 0 where
+  pub judged : Judging lock (r .answer)
   pub sizeless : r .size ≡ 0
 
 -- ---- two calls, one after the other
 
 -- what it takes to seal a package into one output and to open it from there into another
-pub record Roomy (info password pack : List ℕ) (extra : Bool) (stream out : List ℕ) : Type 0 where
-  pub accepts : Accepts info password
-  pub limited : length pack ≤ 268435456
-  pub seals : 8 + (length pack + fillingFor extra (length pack)) ≤ length stream
-  pub opens : length pack ≤ length out
+pub record Roomy (lock : Lock) («package» : List ℕ) (extra : Bool) (stream out : List ℕ) : Type 0 where
+  pub accepts : Accepts lock
+  pub limited : length «package» ≤ 268435456
+  pub seals : 8 + (length «package» + fillingFor extra (length «package»)) ≤ length stream
+  pub opens : length «package» ≤ length out
 
 -- demand 3 (a): a package sealed into one output and opened from there into another, which is left so. Where there is room for both, and
 -- the password is accepted, the second output holds the package that went in, and zeros
-pub record Returned (info password pack : List ℕ) (extra : Bool) (stream out : List ℕ) (l : Left) : Type 0 where
-  pub call : Call openNumbers pack out l
-  pub accepted : Accepted l ↔ Roomy info password pack extra stream out
+pub record Returned (lock : Lock) («package» : List ℕ) (extra : Bool) (stream out : List ℕ) (l : Left) : Type 0 where
+  pub call : Call openNumbers «package» out l
+  pub accepted : Accepted l ↔ Roomy lock «package» extra stream out
 
 -- demand 3 (c): a stream that opens into an output, left as `now`, is the sealing of exactly one pair; its package sealed anew gives the
 -- stream exactly where there is room, and the value and the choice are those of the pair's filling
-pub record Again (info password stream given : List ℕ) (extra : Bool) (out now again : List ℕ) (l : Left) : Type 0 where
-  pub pack : List ℕ
-  pub came-out : now ≡ pack ++ replicate (length out - length pack) 0
-  pub only : Only sealed info password stream pack
-  pub anew : (l ≡ gives stream again) ↔ (Begins (only .it) given extra × (length stream ≤ length again))
+pub record Again (lock : Lock) (stream filling : List ℕ) (extra : Bool) (out now again : List ℕ) (l : Left) : Type 0 where
+  pub «package» : List ℕ
+  pub came-out : now ≡ «package» ++ replicate (length out - length «package») 0
+  pub only : Only sealed lock stream «package»
+  pub anew : (l ≡ gives stream again) ↔ (Begins (only .it) filling extra × (length stream ≤ length again))
 
-pub record Resealed (info password stream given : List ℕ) (extra : Bool) (out now again : List ℕ) (l : Left) : Type 0 where
-  pub opened : AllHold (openRules info password stream (length out)) → Again info password stream given extra out now again l
-  pub refused : (AllHold (openRules info password stream (length out)) → ⊥) → Untouched out (left (l .reply) now) × Untouched again l
+pub record Resealed (lock : Lock) (stream filling : List ℕ) (extra : Bool) (out now again : List ℕ) (l : Left) : Type 0 where
+  pub opened : AllHold (openRules lock stream (length out)) → Again lock stream filling extra out now again l
+  pub refused : (AllHold (openRules lock stream (length out)) → ⊥) → Untouched out (left (l .reply) now) × Untouched again l
 
 -- an EncryptionInfo that was written, then parsed, and judged with its password
 pub record Reading (i : Input) (out : List ℕ) (l : Left) (p : Parsed) (n : ℕ) : Type 0 where
   pub wrote : Writing i out l
-  pub back : Accepted l → GivesBack (λ _. p) (λ _ _. n) i (writtenPart l)
+  pub back : Accepted l → GivesBack (λ _. p) (λ _. n) i (writtenPart l)

@@ -7,12 +7,13 @@ use Prim.Native.Nat.{ℕ, _-_, _≤_}
 use lib.ListN.{length, take, replicate}
 use Rattle.octets.specs.Octets.{leBytes}
 use Rattle.answers.specs.Rules.{AllHold}
-use Rattle.aes.specs.Aes.{encryption}
+use Rattle.answers.specs.Ended.{left, reply}
+use Rattle.steps.specs.Steps.{sealAll}
 use Rattle.descriptor.specs.Info.{infoRules, headerSize, sizeExtra, algId, keySize}
-use Rattle.blocks.specs.Blocks.{ecb}
-use Rattle.sheet.specs.Frame.{streamSize}
-use Rattle.sheet.specs.Sheet.{left, reply}
+use Rattle.password.specs.Lock.{Lock}
+use Rattle.lengths.specs.Lengths.{streamSize}
 use Rattle.promises.specs.Words.{Parser, Judge, Opener, Sealer, publishedKey}
+use Rattle.promises.specs.Demand2.{blockByBlock}
 
 -- ---- the table
 
@@ -28,9 +29,9 @@ f is v = record { field = f; value = v }
 -- a row
 pub data Case : Type 0 where
   -- a package of `size` bytes, whatever is chosen, seals into a stream of so many, and uses so many bytes of filling
-  seals : (size stream filling : ℕ) → Case
+  seals : (size stream count : ℕ) → Case
   -- the same with this choice of an extra block
-  chooses : (extra : Bool) (size stream filling : ℕ) → Case
+  chooses : (extra : Bool) (size stream count : ℕ) → Case
   -- a package of `size` bytes gets this answer, in sealing and in opening
   refuses : (size answer : ℕ) → Case
   -- EncryptionInfo with these facts gets this answer
@@ -81,25 +82,25 @@ Outside low high n = low ≤ n → n ≤ high → ⊥
 
 module _ (parses : Parser) (judges : Judge) (opens : Opener) (sealer : Sealer) where
   -- with this choice a package of `size` bytes seals into a stream of so many, and uses so many bytes of filling
-  abbrev pub Into : (extra : Bool) (size stream filling : ℕ) → Type 0
-  Into extra size stream filling =
-      (info password pack given out : List ℕ) → judges info password ≡ 0 → length pack ≡ size → length given ≡ 16 → stream ≤ length out
-      → let content : List ℕ = leBytes 8 size ++ ecb (encryption (publishedKey info password)) (pack ++ take filling given) in
-      sealer info password pack given extra out ≡ left (reply 0 stream) (content ++ replicate (length out - stream) 0)
+  abbrev pub Into : (extra : Bool) (size stream count : ℕ) → Type 0
+  Into extra size stream count =
+      (lock : Lock) («package» filling out : List ℕ) → judges lock ≡ 0 → length «package» ≡ size → length filling ≡ 16 → stream ≤ length out
+      → let content : List ℕ = leBytes 8 size ++ sealAll (blockByBlock (publishedKey lock)) («package» ++ take count filling) in
+      sealer lock «package» filling extra out ≡ left (reply 0 stream) (content ++ replicate (length out - stream) 0)
 
   abbrev pub Claim : Case → Type 0
-  Claim (seals size stream filling) = (extra : Bool) → Into extra size stream filling
-  Claim (chooses extra size stream filling) = Into extra size stream filling
+  Claim (seals size stream count) = (extra : Bool) → Into extra size stream count
+  Claim (chooses extra size stream count) = Into extra size stream count
   Claim (refuses size answer) =
-      (info password : List ℕ) → judges info password ≡ 0
-      → ((pack given : List ℕ) (extra : Bool) (out : List ℕ) → length pack ≡ size → length given ≡ 16
-      → sealer info password pack given extra out ≡ left (reply answer 0) out)
-      × ((stream out : List ℕ) → 8 ≤ length stream → streamSize stream ≡ size → opens info password stream out ≡ left (reply answer 0) out)
+      (lock : Lock) → judges lock ≡ 0
+      → ((«package» filling : List ℕ) (extra : Bool) (out : List ℕ) → length «package» ≡ size → length filling ≡ 16
+      → sealer lock «package» filling extra out ≡ left (reply answer 0) out)
+      × ((stream out : List ℕ) → 8 ≤ length stream → streamSize stream ≡ size → opens lock stream out ≡ left (reply answer 0) out)
   Claim (answers facts answer) = (info : List ℕ) → Agrees info facts → Before answer info → parses info .answer ≡ answer
   Claim (passes facts low high) = (info : List ℕ) → Agrees info facts → Before low info → Outside low high (parses info .answer)
   Claim (names facts count) =
       (info : List ℕ) → Agrees info facts → Before 3 info
-      → Outside 3 5 (parses info .answer) × (parses info .answer ≡ 0 → parses info .fields .name ≡ count)
+      → Outside 3 5 (parses info .answer) × (parses info .answer ≡ 0 → parses info .fields .«name_length» ≡ count)
 
   -- every row's claim
   abbrev pub Every : List Case → Type 0

@@ -7,9 +7,11 @@ use mathlib.Core.List.{List, [], _∷_, _++_}
 use Prim.Native.Nat.{ℕ, _-_, _≤_}
 use lib.ListN.{length, replicate}
 use Rattle.answers.specs.Rules.{OneOf}
+use Rattle.answers.specs.Ended.{Left}
 use Rattle.descriptor.specs.Info.{zeroed}
 use Rattle.descriptor.specs.declared.Parsed.{Parsed}
-use Rattle.sheet.specs.Sheet.{Left, packageOf, filledWith, sealingOf}
+use Rattle.password.specs.Lock.{Lock}
+use Rattle.sheet.specs.Sheet.{packageOf, filledWith, sealingOf}
 use Rattle.promises.specs.Words.{Parser, Judge, Opener, Sealer, Accepted}
 
 -- ---- the numbers of each entry, beside 0 (01, "The numbered replies")
@@ -68,9 +70,9 @@ Verdict n = Concludes {A = Unit} verdictNumbers tt n 0 tt
 
 pub record Demand1 (parses : Parser) (judges : Judge) (opens : Opener) (seals : Sealer) : Type 0 where
   pub parsing : (info : List ℕ) → Parse (parses info)
-  pub judging : (info password : List ℕ) → Verdict (judges info password)
+  pub judging : (lock : Lock) → Verdict (judges lock)
   -- what is written is the package of the stream
-  pub opening : (info password stream out : List ℕ) → Call openNumbers (packageOf info password stream) out (opens info password stream out)
+  pub opening : (lock : Lock) (stream out : List ℕ) → Call openNumbers (packageOf lock stream) out (opens lock stream out)
   -- what is written is the stream of the package, filled with the first of the sixteen bytes, with an extra block or without
-  pub sealing : (info password pack given : List ℕ) (extra : Bool) (out : List ℕ) → length given ≡ 16
-      → Call sealNumbers (sealingOf info password (filledWith pack given extra)) out (seals info password pack given extra out)
+  pub sealing : (lock : Lock) («package» filling : List ℕ) (extra : Bool) (out : List ℕ) → length filling ≡ 16
+      → Call sealNumbers (sealingOf lock (filledWith «package» filling extra)) out (seals lock «package» filling extra out)

@@ -10,10 +10,11 @@ use Rattle.aes.specs.Aes.{encrypted, decrypted}
 use Rattle.aes.specs.declared.Reply.{Reply}
 use Rattle.descriptor.specs.Info.{parsed}
 use Rattle.password.specs.Verdict.{judged}
+use Rattle.password.specs.Lock.{Lock}
 use Rattle.sheet.specs.Sheet.{opened, sealed}
 use Rattle.writer.specs.Written.{written}
-use Rattle.files.specs.Files.{File, filesOpened}
 use Rattle.capi.specs.Capi as Capi
+use Rattle.files.specs.Files.{File, filesOpened}
 use Rattle.promises.specs.Demand1.{Concludes, OnOutput, Parse, Verdict, infoNumbers, verdictNumbers, openNumbers, sealNumbers}
 use Rattle.promises.specs.NewInfo.{writeNumbers}
 
@@ -48,9 +49,9 @@ pub record EveryCall : Type 0 where
   pub encrypting : (key block : List ℕ) → Block (encrypted key block)
   pub decrypting : (key block : List ℕ) → Block (decrypted key block)
   pub parsing : (info : List ℕ) → Parse (parsed info)
-  pub judging : (info password : List ℕ) → Verdict (judged info password)
-  pub opening : (info password stream out : List ℕ) → OnOutput openNumbers out (opened info password stream out)
-  pub sealing : (info password pack given : List ℕ) (extra : Bool) (out : List ℕ) → OnOutput sealNumbers out (sealed info password pack given extra out)
+  pub judging : (lock : Lock) → Verdict (judged lock)
+  pub opening : (lock : Lock) (stream out : List ℕ) → OnOutput openNumbers out (opened lock stream out)
+  pub sealing : (lock : Lock) («package» filling : List ℕ) (extra : Bool) (out : List ℕ) → OnOutput sealNumbers out (sealed lock «package» filling extra out)
   pub writing : (bits : ℕ) (password name salt verifier filling out : List ℕ)
       → OnOutput writeNumbers out (written bits password name salt verifier filling out)
   pub files : (info password stream : File) (out : List ℕ) → OnOutput fileNumbers out (filesOpened info password stream out)
@@ -58,9 +59,9 @@ pub record EveryCall : Type 0 where
   pub c-aes-encrypt : (key : List ℕ) (low high : ℕ) (out : List ℕ) → FromC blockNumbers out (Capi.encryptOutcome key low high out)
   pub c-aes-decrypt : (key : List ℕ) (low high : ℕ) (out : List ℕ) → FromC blockNumbers out (Capi.decryptOutcome key low high out)
   pub c-parse : (info out : List ℕ) → FromC infoNumbers out (Capi.parseOutcome info out)
-  pub c-verdict : (info password : List ℕ) → let r = Capi.told (Capi.verdictWord info password) in Concludes {A = Unit} verdictNumbers tt (r .answer) (r .size) tt
-  pub c-open : (info password stream out : List ℕ) → FromC openNumbers out (Capi.openOutcome info password stream out)
-  pub c-seal : (info password pack : List ℕ) (low high extra : ℕ) (out : List ℕ)
-      → FromC sealNumbers out (Capi.sealOutcome info password pack low high extra out)
+  pub c-verdict : (lock : Lock) → let r = Capi.told (Capi.verdictWord lock) in Concludes {A = Unit} verdictNumbers tt (r .answer) (r .size) tt
+  pub c-open : (lock : Lock) (stream out : List ℕ) → FromC openNumbers out (Capi.openOutcome lock stream out)
+  pub c-seal : (lock : Lock) («package» : List ℕ) (low high extra : ℕ) (out : List ℕ)
+      → FromC sealNumbers out (Capi.sealOutcome lock «package» low high extra out)
   pub c-write-info : (bits : ℕ) (password name : List ℕ) (saltLow saltHigh verifierLow verifierHigh fillingLow fillingHigh : ℕ) (out : List ℕ)
       → FromC writeNumbers out (Capi.writeOutcome bits password name saltLow saltHigh verifierLow verifierHigh fillingLow fillingHigh out)

@@ -7,15 +7,18 @@ use mathlib.Core.List.{List, [], _∷_, _++_}
 use Prim.Native.Nat.{ℕ, _+_, _/_, _%_, _≤_}
 use lib.ListN.{length, take, drop}
 use Rattle.answers.specs.Rules.{Rule, OneOf}
+use Rattle.answers.specs.Ended.{Left}
 use Rattle.sha1.specs.Sha1.{sha1}
-use Rattle.aes.specs.Aes.{encryption}
+use Rattle.steps.specs.Steps.{sealAll}
+use Rattle.descriptor.specs.Info.{algIdOf}
+use Rattle.password.specs.Lock.{lockOf}
 use Rattle.password.specs.Key.{keyBytes}
-use Rattle.blocks.specs.Blocks.{ecb}
 use Rattle.sheet.specs.Frame.{Pair, Lawful}
-use Rattle.sheet.specs.Sheet.{Left, lengths}
-use Rattle.writer.specs.Written.{algIdOf, writeRules, infoOf}
+use Rattle.sheet.specs.Sheet.{lengths}
+use Rattle.writer.specs.Written.{writeRules, infoOf}
 use Rattle.promises.specs.Words.{Parser, Judge, Opener, Sealer, Accepted, Answers, writtenPart}
 use Rattle.promises.specs.Demand1.{Call}
+use Rattle.promises.specs.Demand2.{blockByBlock}
 use Rattle.promises.specs.Demand3.{RoundTrip}
 
 -- ---- what comes in
@@ -40,7 +43,7 @@ abbrev pub Writer : Type 0
 Writer = (i : Input) (out : List ℕ) → Left
 
 abbrev pub rulesFor : Input → (room : ℕ) → List Rule
-rulesFor i room = writeRules (i .bits) (length (i .password)) (length (i .name)) room
+rulesFor i room = writeRules (i .bits) (i .password) (length (i .name)) room
 
 abbrev pub infoFor : Input → List ℕ
 infoFor i = infoOf (i .bits) (i .password) (i .name) (i .salt) (i .verifier) (i .filling)
@@ -48,6 +51,10 @@ infoFor i = infoOf (i .bits) (i .password) (i .name) (i .salt) (i .verifier) (i 
 -- the key of the published derivation
 abbrev pub keyFor : Input → List ℕ
 keyFor i = keyBytes (i .bits / 8) (i .salt) (i .password)
+
+-- the verifier, its hash and the filling, encrypted block by block under it: the two encrypted fields, one after the other
+abbrev pub fieldsFor : Input → List ℕ
+fieldsFor i = sealAll (blockByBlock (keyFor i)) (i .verifier ++ (sha1 (i .verifier) ++ i .filling))
 
 abbrev pub writeNumbers : List ℕ
 writeNumbers = 3 ∷ 5 ∷ 8 ∷ 11 ∷ 16 ∷ []
@@ -67,15 +74,15 @@ pub record GivesBack (parses : Parser) (judges : Judge) (i : Input) (info : List
   pub answer : parses info .answer ≡ 0
   pub major : parses info .fields .major ≡ 3
   pub minor : parses info .fields .minor ≡ 2
-  pub alg : parses info .fields .alg ≡ algIdOf (i .bits)
-  pub key : parses info .fields .key .0 ≡ i .bits / 8
-  pub place : parses info .fields .place ≡ 44
-  pub name : parses info .fields .name ≡ length (i .name)
+  pub alg : parses info .fields .«alg_id» ≡ algIdOf (i .bits)
+  pub key : parses info .fields .«key_size» .0 ≡ i .bits / 8
+  pub place : parses info .fields .«name_place» ≡ 44
+  pub name : parses info .fields .«name_length» ≡ length (i .name)
   pub salt : parses info .fields .salt ≡ i .salt
-  pub verifier : parses info .fields .verifier ≡ encryption (keyFor i) (i .verifier)
-  pub hash : parses info .fields .hash ≡ ecb (encryption (keyFor i)) (sha1 (i .verifier) ++ i .filling)
+  pub verifier : parses info .fields .«encrypted_verifier» ≡ take 16 (fieldsFor i)
+  pub hash : parses info .fields .«encrypted_verifier_hash» ≡ drop 16 (fieldsFor i)
   pub named : take (length (i .name)) (drop 44 info) ≡ i .name
-  pub verdict : judges info (i .password) ≡ 0
+  pub verdict : judges (lockOf info (i .password)) ≡ 0
 
 pub record NewInfo (writes : Writer) (parses : Parser) (judges : Judge) (opens : Opener) (seals : Sealer) : Type 0 where
   -- something comes out exactly where the input is within the limits
@@ -88,4 +95,4 @@ pub record NewInfo (writes : Writer) (parses : Parser) (judges : Judge) (opens :
   pub back : (i : Input) (out : List ℕ) → Typed i → Accepted (writes i out) → GivesBack parses judges i (writtenPart (writes i out))
   -- and every package, with every filling of an allowed length, seals under it into a stream that opens to that package
   pub opening : (i : Input) (out : List ℕ) → Typed i → Accepted (writes i out)
-      → (p : Pair) → Lawful lengths p → RoundTrip opens seals (writtenPart (writes i out)) (i .password) p
+      → (p : Pair) → Lawful lengths p → RoundTrip opens seals (lockOf (writtenPart (writes i out)) (i .password)) p

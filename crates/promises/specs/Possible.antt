@@ -7,7 +7,9 @@ use lib.ListN.{length}
 use Rattle.octets.specs.Octets.{Bytes}
 use Rattle.answers.specs.Rules.{OneOf}
 use Rattle.descriptor.specs.Info.{keySize}
-use Rattle.sheet.specs.Frame.{Pair, Lawful, streamSize}
+use Rattle.password.specs.Lock.{lockOf}
+use Rattle.lengths.specs.Lengths.{streamSize}
+use Rattle.sheet.specs.Frame.{Pair, Lawful}
 use Rattle.sheet.specs.Sheet.{lengths}
 use Rattle.promises.specs.Words.{Parser, Judge}
 use Rattle.promises.specs.Demand3.{Begins}
@@ -19,21 +21,21 @@ pub record Locks (judges : Judge) (bits : ℕ) (password : List ℕ) : Type 0 wh
   pub info : List ℕ
   pub bytes : Bytes info
   pub size : keySize info ≡ bits
-  pub verdict : judges info password ≡ 0
+  pub verdict : judges (lockOf info password) ≡ 0
 
 -- a lawful pair whose package has so many bytes, and a value that begins with its filling, with this choice
 pub record Fills (extra : Bool) (size : ℕ) : Type 0 where
   pub it : Pair
   pub lawful : Lawful lengths it
-  pub sized : length (it .pack) ≡ size
-  pub given : List ℕ
-  pub begins : Begins it given extra
+  pub sized : length (it .«package») ≡ size
+  pub filling : List ℕ
+  pub begins : Begins it filling extra
 
 -- a value and a choice that begin with a pair's filling
 pub record Begun (p : Pair) : Type 0 where
-  pub given : List ℕ
+  pub filling : List ℕ
   pub extra : Bool
-  pub begins : Begins p given extra
+  pub begins : Begins p filling extra
 
 -- a list of so many bytes
 pub record Long (n : ℕ) : Type 0 where
@@ -71,6 +73,6 @@ pub record Possible (parses : Parser) (judges : Judge) : Type 0 where
   pub begun : (p : Pair) → Lawful lengths p → Begun p
   -- every multiple of 4,096 above 0 and within the limit is the size of a package that takes an extra block
   pub extra : (size : ℕ) → 0 < size → size % 4096 ≡ 0 → size ≤ 268435456
-      → (pack : Long size) × (given : Long 16) × Takes (pack .it) (given .it)
+      → («package» : Long size) × (filling : Long 16) × Takes («package» .it) (filling .it)
   -- every row of the table P1 to P12 has an instance
   pub rows : Instances parses table

@@ -7,10 +7,11 @@ use mathlib.Core.List.{List}
 use Prim.Native.Nat.{ℕ, _/_, _<_}
 use lib.ListN.{take}
 use Rattle.answers.specs.Rules.{Rule, AllHold, First}
+use Rattle.answers.specs.Ended.{Left}
 use Rattle.descriptor.specs.Info.{keySize, saltOf}
 use Rattle.descriptor.specs.declared.Parsed.{Parsed}
 use Rattle.password.specs.Key.{keyBytes}
-use Rattle.sheet.specs.Sheet.{Left}
+use Rattle.password.specs.Lock.{Lock}
 
 -- ---- the entries
 
@@ -18,17 +19,17 @@ use Rattle.sheet.specs.Sheet.{Left}
 abbrev pub Parser : Type 0
 Parser = (info : List ℕ) → Parsed
 
--- EncryptionInfo and a password give an answer
+-- what unlocks a sheet, EncryptionInfo and a password, gives an answer
 abbrev pub Judge : Type 0
-Judge = (info password : List ℕ) → ℕ
+Judge = Lock → ℕ
 
--- EncryptionInfo, a password, a package stream and the output as it was give an answer, a size and the output as it is left
+-- it, a package stream and the output as it was give an answer, a size and the output as it is left
 abbrev pub Opener : Type 0
-Opener = (info password stream out : List ℕ) → Left
+Opener = (lock : Lock) (stream out : List ℕ) → Left
 
 -- the same from a package, sixteen bytes given to fill its last block, and the choice of an extra one
 abbrev pub Sealer : Type 0
-Sealer = (info password pack given : List ℕ) (extra : Bool) (out : List ℕ) → Left
+Sealer = (lock : Lock) («package» filling : List ℕ) (extra : Bool) (out : List ℕ) → Left
 
 -- ---- what is said of them
 
@@ -46,5 +47,5 @@ pub record Answers (rules : List Rule) (n : ℕ) : Type 0 where
   pub first : (m : ℕ) → 0 < m → (n ≡ m) ↔ First m rules
 
 -- the key of the published derivation: from the salt and the password, as many bytes as KeySize counts bits for
-abbrev pub publishedKey : (info password : List ℕ) → List ℕ
-publishedKey info password = keyBytes (keySize info / 8) (saltOf info) password
+abbrev pub publishedKey : (lock : Lock) → List ℕ
+publishedKey lock = keyBytes (keySize (lock .info) / 8) (saltOf (lock .info)) (lock .password)

@@ -1,13 +1,14 @@
 // One call of each entry.
+ghost use Rattle.password.specs.Lock.{lockOf};
+ghost use Rattle.answers.specs.Ended.{left};
 ghost use Rattle.aes.specs.Aes.{encryption, decryption};
-ghost use Rattle.sheet.specs.Sheet.{left};
 ghost use Rattle.files.specs.Files.{file};
 ghost use Rattle.promises.specs.Calls as Calls;
+use answers::Reply;
 use descriptor::BitCount;
 use descriptor::Parsed;
 use files::There;
 use sha1::Hashed;
-use sheet::Reply;
 
 // SHA-1 of a message.
 pub fn digest(message: &[u8]) -> Hashed
@@ -39,14 +40,14 @@ pub fn parse(info: &[u8]) -> Parsed
 
 // A password judged.
 pub fn verdict(info: &[u8], password: &[u16]) -> u16
-    ensures { λ r. ⌜ Calls.Judging (now (info .entry)) (now (password .entry)) r ⌝ }
+    ensures { λ r. ⌜ Calls.Judging (lockOf (now (info .entry)) (now (password .entry))) r ⌝ }
 {
     password::verdict(info, password)
 }
 
 // A stream opened.
 pub fn open(info: &[u8], password: &[u16], stream: &[u8], out: &mut [u8]) -> Reply
-    ensures { λ r. ⌜ Calls.Opening (now (info .entry)) (now (password .entry)) (now (stream .entry)) (now (out .entry)) (left r (now (out .exit))) ⌝ }
+    ensures { λ r. ⌜ Calls.Opening (lockOf (now (info .entry)) (now (password .entry))) (now (stream .entry)) (now (out .entry)) (left r (now (out .exit))) ⌝ }
 {
     sheet::open(info, password, stream, out)
 }
@@ -55,14 +56,14 @@ pub fn open(info: &[u8], password: &[u16], stream: &[u8], out: &mut [u8]) -> Rep
 pub fn seal(
     info: &[u8],
     password: &[u16],
-    contents: &[u8],
+    package: &[u8],
     filling: [u8; 16],
     extra: bool,
     out: &mut [u8],
 ) -> Reply
-    ensures { λ r. ⌜ Calls.Sealing (now (info .entry)) (now (password .entry)) (now (contents .entry)) filling extra (now (out .entry)) (left r (now (out .exit))) ⌝ }
+    ensures { λ r. ⌜ Calls.Sealing (lockOf (now (info .entry)) (now (password .entry))) (now («package» .entry)) filling extra (now (out .entry)) (left r (now (out .exit))) ⌝ }
 {
-    sheet::seal(info, password, contents, filling, extra, out)
+    sheet::seal(info, password, package, filling, extra, out)
 }
 
 // A new EncryptionInfo written.

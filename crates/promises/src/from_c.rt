@@ -1,6 +1,7 @@
 // One call of each C function: the reply is the one that its number tells (Capi.antt `told`).
+ghost use Rattle.password.specs.Lock.{lockOf};
+ghost use Rattle.answers.specs.Ended.{left};
 ghost use Rattle.aes.specs.Aes.{encryption, decryption};
-ghost use Rattle.sheet.specs.Sheet.{left};
 ghost use Rattle.capi.specs.Capi.{told, sixteen, twelve, bitCount, chosen};
 ghost use Rattle.promises.specs.Calls as Calls;
 
@@ -34,14 +35,14 @@ pub fn parse(info: &[u8], out: &mut [u8; 84]) -> u64
 
 // A password judged.
 pub fn verdict(info: &[u8], password: &[u16]) -> u64
-    ensures { λ r. ⌜ Calls.VerdictOut (now (info .entry)) (now (password .entry)) (told r) ⌝ }
+    ensures { λ r. ⌜ Calls.VerdictOut (lockOf (now (info .entry)) (now (password .entry))) (told r) ⌝ }
 {
     capi::ropeshadow_verdict(info, password)
 }
 
 // A stream opened.
 pub fn open(info: &[u8], password: &[u16], stream: &[u8], out: &mut [u8]) -> u64
-    ensures { λ r. ⌜ Calls.Opening (now (info .entry)) (now (password .entry)) (now (stream .entry)) (now (out .entry)) (left (told r) (now (out .exit))) ⌝ }
+    ensures { λ r. ⌜ Calls.Opening (lockOf (now (info .entry)) (now (password .entry))) (now (stream .entry)) (now (out .entry)) (left (told r) (now (out .exit))) ⌝ }
 {
     capi::ropeshadow_open(info, password, stream, out)
 }
@@ -50,15 +51,15 @@ pub fn open(info: &[u8], password: &[u16], stream: &[u8], out: &mut [u8]) -> u64
 pub fn seal(
     info: &[u8],
     password: &[u16],
-    contents: &[u8],
+    package: &[u8],
     low: u64,
     high: u64,
     extra: u64,
     out: &mut [u8],
 ) -> u64
-    ensures { λ r. ⌜ Calls.Sealing (now (info .entry)) (now (password .entry)) (now (contents .entry)) (sixteen low high) (chosen extra) (now (out .entry)) (left (told r) (now (out .exit))) ⌝ }
+    ensures { λ r. ⌜ Calls.Sealing (lockOf (now (info .entry)) (now (password .entry))) (now («package» .entry)) (sixteen low high) (chosen extra) (now (out .entry)) (left (told r) (now (out .exit))) ⌝ }
 {
-    capi::ropeshadow_seal(info, password, contents, low, high, extra, out)
+    capi::ropeshadow_seal(info, password, package, low, high, extra, out)
 }
 
 // A new EncryptionInfo written.

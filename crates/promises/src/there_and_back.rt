@@ -1,23 +1,24 @@
 // Two calls one after the other: what one of them makes of what the other left.
-ghost use Rattle.sheet.specs.Sheet.{left};
+ghost use Rattle.password.specs.Lock.{lockOf};
+ghost use Rattle.answers.specs.Ended.{left};
 ghost use Rattle.promises.specs.Calls as Calls;
+use answers::Reply;
 use descriptor::BitCount;
 use descriptor::Parsed;
-use sheet::Reply;
 
 // A package sealed into `stream`, and opened from there into `out`.
 pub fn sealed_and_opened(
     info: &[u8],
     password: &[u16],
-    contents: &[u8],
+    package: &[u8],
     filling: [u8; 16],
     extra: bool,
     stream: &mut [u8],
     out: &mut [u8],
 ) -> Reply
-    ensures { λ r. ⌜ Calls.Returned (now (info .entry)) (now (password .entry)) (now (contents .entry)) extra (now (stream .entry)) (now (out .entry)) (left r (now (out .exit))) ⌝ }
+    ensures { λ r. ⌜ Calls.Returned (lockOf (now (info .entry)) (now (password .entry))) (now («package» .entry)) extra (now (stream .entry)) (now (out .entry)) (left r (now (out .exit))) ⌝ }
 {
-    let s = sheet::seal(info, password, contents, filling, extra, stream);
+    let s = sheet::seal(info, password, package, filling, extra, stream);
     let a = s.answer;
     if a != answers::DONE {
         return s;
@@ -36,7 +37,7 @@ pub fn opened_and_sealed(
     out: &mut [u8],
     again: &mut [u8],
 ) -> Reply
-    ensures { λ r. ⌜ Calls.Resealed (now (info .entry)) (now (password .entry)) (now (stream .entry)) filling extra (now (out .entry)) (now (out .exit)) (now (again .entry)) (left r (now (again .exit))) ⌝ }
+    ensures { λ r. ⌜ Calls.Resealed (lockOf (now (info .entry)) (now (password .entry))) (now (stream .entry)) filling extra (now (out .entry)) (now (out .exit)) (now (again .entry)) (left r (now (again .exit))) ⌝ }
 {
     let o = sheet::open(info, password, stream, out);
     let a = o.answer;

@@ -8,8 +8,8 @@ use lib.ListN.{length, take, drop, set}
 use lib.Seq.{take-suc-set}
 use Rattle.octets.specs.Octets.{beAt}
 use Rattle.octets.proofs.Numbers.{beAt-part}
+use Rattle.sha1_rounds.specs.declared.State.{State}
 use Rattle.sha1.specs.Sha1 as fips
-use Rattle.sha1.specs.declared.State.{State}
 
 -- a block's next word, stored where it belongs
 pub block-more : (p m : List ℕ) (o t v : ℕ) → t < length m → take t m ≡ fips.blockWords p o t → v ≡ beAt 4 (o + 4 * t) p

@@ -1,34 +1,24 @@
 -- What every hash is, and what `hashed` gives within the limit: the facts that crates above cite. Assumes nothing.
-use mathlib.Core.Path.{_≡_, refl}
-use mathlib.Core.List.{List, [], _∷_}
-use Prim.Native.Nat.{ℕ, _*_, _≤_}
-use native.Mathlib.Omega.{arith}
+use mathlib.Core.Path.{_≡_}
+use mathlib.Core.List.{List}
+use Prim.Native.Nat.{ℕ, _≤_}
 use borrow.Author.Tests.{le-ltb}
-use lib.ListN.{length, length-append}
+use lib.ListN.{length}
 use Rattle.octets.specs.Octets.{Bytes, beBytes}
-use Rattle.octets.proofs.Below.{nil-below, append-below, beBytes-bytes}
+use Rattle.octets.proofs.Below.{beBytes-bytes}
 use Rattle.octets.proofs.Numbers.{length-beBytes}
+use Rattle.octets.proofs.Each.{length-each, each-bytes}
 use Rattle.answers.specs.Rules.{firstOf}
+use Rattle.sha1_rounds.specs.declared.State.{State}
 use Rattle.sha1.specs.Sha1 as fips
-use Rattle.sha1.specs.declared.State.{State}
-
-pub length-wordBytes : (ws : List ℕ) → length (fips.wordBytes ws) ≡ 4 * length ws
-unfolding fips.wordBytes
-length-wordBytes [] = refl
-length-wordBytes (w ∷ ws) = simp (length-append, length-beBytes) (omega (arith, length-wordBytes ws))
-
-pub wordBytes-bytes : (ws : List ℕ) → Bytes (fips.wordBytes ws)
-unfolding fips.wordBytes
-wordBytes-bytes [] = nil-below (omega arith)
-wordBytes-bytes (w ∷ ws) = append-below (beBytes 4 w) (fips.wordBytes ws) (beBytes-bytes 4 w) (wordBytes-bytes ws)
 
 pub length-output : (s : State) → length (fips.output s) ≡ 20
 unfolding fips.output
-length-output s = length-wordBytes _
+length-output s = length-each (beBytes 4) (length-beBytes 4) _
 
 pub output-bytes : (s : State) → Bytes (fips.output s)
 unfolding fips.output
-output-bytes s = wordBytes-bytes _
+output-bytes s = each-bytes (beBytes 4) (beBytes-bytes 4) _
 
 pub length-sha1 : (m : List ℕ) → length (fips.sha1 m) ≡ 20
 unfolding fips.sha1

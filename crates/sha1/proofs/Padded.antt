@@ -1,6 +1,6 @@
 -- The last blocks are laid over zeros: what is left of the message, its one bit, and its length. Assumes nothing.
 use mathlib.Core.Path.{_≡_, refl, sym, ap, _∙_}
-use mathlib.Core.List.{List, [], _∷_, _++_, append-nil, append-assoc}
+use mathlib.Core.List.{List, [], _∷_, _++_, flatMap, append-nil, append-assoc}
 use Prim.Native.Nat.{ℕ, suc, _+_, _-_, _*_, _/_, _%_, _≤_, _<_}
 use native.Mathlib.Omega.{arith}
 use lib.ListN.{length, take, drop, set, replicate, length-append, length-drop, length-replicate, replicate-append-replicate}
@@ -9,8 +9,8 @@ use Rattle.octets.specs.Octets.{beBytes}
 use Rattle.octets.proofs.Numbers.{length-beBytes, beBytes-wide}
 use Rattle.octets.proofs.Parts.{drop-take, part-part, paste-next, drop-replicate}
 use Rattle.octets.proofs.Filled.{Filled, none, more, whole}
+use Rattle.sha1_rounds.specs.declared.State.{State}
 use Rattle.sha1.specs.Sha1 as fips
-use Rattle.sha1.specs.declared.State.{State}
 use Rattle.sha1.specs.Ending.{endingBlocks, Ends}
 use Rattle.sha1.proofs.Chains.{block-same}
 
@@ -105,7 +105,7 @@ hash-law m s e =
 -- the five words' bytes, laid one after the other
 pub output-law : (s : State) (x₁ x₂ x₃ x₄ x₅ : List ℕ) → x₁ ≡ paste (replicate 20 0) 0 (beBytes 4 (s .a)) 4 → x₂ ≡ paste x₁ 4 (beBytes 4 (s .b)) 4
     → x₃ ≡ paste x₂ 8 (beBytes 4 (s .c)) 4 → x₄ ≡ paste x₃ 12 (beBytes 4 (s .d)) 4 → x₅ ≡ paste x₄ 16 (beBytes 4 (s .e)) 4 → x₅ ≡ fips.output s
-unfolding fips.output fips.wordBytes
+unfolding fips.output flatMap
 output-law s x₁ x₂ x₃ x₄ x₅ e₁ e₂ e₃ e₄ e₅ =
     let two = word (s .b) 4 12 x₂ (word (s .a) 0 16 x₁ (none (replicate 20 0) 20 refl) e₁) e₂ in
     let four = word (s .d) 12 4 x₄ (word (s .c) 8 8 x₃ two e₃) e₄ in

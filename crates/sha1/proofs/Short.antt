@@ -1,17 +1,17 @@
 -- A message of at most 55 bytes pads to one block, so its hash is one compression; where it is whole words, of those words, the
 -- one bit and the length. Assumes nothing.
 use mathlib.Core.Path.{_≡_, refl, sym, ap, _∙_}
-use mathlib.Core.List.{List, [], _∷_, _++_, append-nil, append-assoc}
+use mathlib.Core.List.{List, [], _∷_, _++_, flatMap}
 use Prim.Native.Nat.{ℕ, zero, suc, _+_, _-_, _*_, _/_, _%_, _^_, _≤_, _<_}
 use native.Mathlib.Omega.{arith}
 use lib.ListN.{length, getD, take, replicate, length-append, length-replicate, replicate-append-replicate}
 use lib.Seq.{take-suc, take-all}
 use Rattle.octets.specs.Octets.{Below, leBytes, beAt, beBytes}
 use Rattle.octets.proofs.Numbers.{length-beBytes, beAt-here, beAt-past}
+use Rattle.octets.proofs.Each.{length-each, each-append, each-one}
 use Rattle.octets.proofs.Below.{tail-below, cons-below, append-below, replicate-below, nil-below}
 use Rattle.sha1.specs.Sha1 as fips
 use Rattle.sha1.proofs.Padded.{length-pad, pad-drop}
-use Rattle.sha1.proofs.Laws.{length-wordBytes}
 
 -- one block
 pub one-block : (m : List ℕ) → length m ≤ 55 → fips.sha1 m ≡ fips.output (fips.compress fips.start (fips.blockWords (fips.pad m) 0 16))
@@ -26,17 +26,11 @@ one-block m h =
 abbrev pub Words : List ℕ → Type 0
 Words ws = Below (2 ^ 32) ws
 
-pub wordBytes-append : (ws us : List ℕ) → fips.wordBytes (ws ++ us) ≡ fips.wordBytes ws ++ fips.wordBytes us
-unfolding fips.wordBytes
-wordBytes-append [] us = refl
-wordBytes-append (w ∷ ws) us = ap (λ (l : List ℕ). beBytes 4 w ++ l) (wordBytes-append ws us) ∙ sym (append-assoc (beBytes 4 w) (fips.wordBytes ws) (fips.wordBytes us))
-
-single : (w : ℕ) → fips.wordBytes (w ∷ []) ≡ beBytes 4 w
-unfolding fips.wordBytes
-single w = append-nil (beBytes 4 w)
+length-words : (ws : List ℕ) → length (fips.wordBytes ws) ≡ 4 * length ws
+length-words = length-each (beBytes 4) (length-beBytes 4)
 
 wordBytes-zeros : (n : ℕ) → fips.wordBytes (replicate n 0) ≡ replicate (4 * n) 0
-unfolding fips.wordBytes beBytes leBytes
+unfolding flatMap beBytes leBytes
 wordBytes-zeros zero = refl
 wordBytes-zeros (suc n) =
     let e : 4 * suc n ≡ 4 + 4 * n = omega arith in
@@ -44,7 +38,7 @@ wordBytes-zeros (suc n) =
 
 -- a word is read where its bytes stand
 pub word-at : (n : ℕ) (ws : List ℕ) → Words ws → n < length ws → beAt 4 (4 * n) (fips.wordBytes ws) ≡ getD ws n 0
-unfolding fips.wordBytes
+unfolding flatMap
 word-at n [] b h = absurd (omega arith)
 word-at zero (w ∷ ws) b h = beAt-here 4 w (fips.wordBytes ws) (b .at 0)
 word-at (suc n) (w ∷ ws) b h =
@@ -65,19 +59,19 @@ shortBlock ws = ws ++ 0x80000000 ∷ replicate (14 - length ws) 0 ++ (32 * lengt
 
 -- the one bit's word, and zeros after it
 bit-word : (n : ℕ) → fips.wordBytes (0x80000000 ∷ replicate n 0) ≡ 0x80 ∷ replicate (3 + 4 * n) 0
-unfolding fips.wordBytes beBytes leBytes
+unfolding flatMap beBytes leBytes
 bit-word n = ap (λ (l : List ℕ). 0x80 ∷ 0 ∷ 0 ∷ 0 ∷ l) (wordBytes-zeros n) ∙ ap (_∷_ 0x80) (replicate-append-replicate {A = ℕ} 3 (4 * n) 0)
 
 short-pad : (ws : List ℕ) → length ws ≤ 13 → fips.pad (fips.wordBytes ws) ≡ fips.wordBytes (shortBlock ws)
 unfolding shortBlock
 short-pad ws h =
     let k : ℕ = length ws in
-    let n : length (fips.wordBytes ws) ≡ 4 * k = length-wordBytes ws in
+    let n : length (fips.wordBytes ws) ≡ 4 * k = length-words ws in
     let z : (119 - 4 * k % 64) % 64 + 4 ≡ 3 + 4 * (14 - k) = omega arith in
     let v : 8 * (4 * k) ≡ 32 * k = omega arith in
     pad-drop (fips.wordBytes ws) 0 (omega arith) (omega arith)
-    ∙ rw (n, z, v, ← bit-word (14 - k), ← wordBytes-append ws (0x80000000 ∷ replicate (14 - k) 0))
-    (sym (wordBytes-append (ws ++ 0x80000000 ∷ replicate (14 - k) 0) (32 * k ∷ []) ∙ ap (λ (l : List ℕ). fips.wordBytes (ws ++ 0x80000000 ∷ replicate (14 - k) 0) ++ l) (single (32 * k))))
+    ∙ rw (n, z, v, ← bit-word (14 - k), ← each-append (beBytes 4) ws (0x80000000 ∷ replicate (14 - k) 0))
+    (sym (each-append (beBytes 4) (ws ++ 0x80000000 ∷ replicate (14 - k) 0) (32 * k ∷ []) ∙ rw each-one))
 
 short-block-words : (ws : List ℕ) → Words ws → length ws ≤ 13 → Words (shortBlock ws)
 unfolding shortBlock
@@ -98,7 +92,7 @@ short-words ws b h =
     ap (λ (p : List ℕ). fips.blockWords p 0 16) (short-pad ws h)
     ∙ block-words 16 (shortBlock ws) (short-block-words ws b h) (omega arith)
     ∙ take-all 16 (shortBlock ws) (omega arith) in
-    one-block (fips.wordBytes ws) (omega (arith, length-wordBytes ws)) ∙ ap (λ (m : List ℕ). fips.output (fips.compress fips.start m)) e
+    one-block (fips.wordBytes ws) (omega (arith, length-words ws)) ∙ ap (λ (m : List ℕ). fips.output (fips.compress fips.start m)) e
 
 -- six words, the one bit, zeros and the length
 pub six-words : (a b c d e f : ℕ) → a < 2 ^ 32 → b < 2 ^ 32 → c < 2 ^ 32 → d < 2 ^ 32 → e < 2 ^ 32 → f < 2 ^ 32

@@ -6,8 +6,8 @@ use Prim.Native.Nat.{ℕ, _*_, _<_}
 use native.Mathlib.Omega.{arith}
 use lib.ListN.{getD}
 use Rattle.octets.specs.Octets.{beAt}
+use Rattle.sha1_rounds.specs.declared.State.{State}
 use Rattle.sha1.specs.Sha1 as fips
-use Rattle.sha1.specs.declared.State.{State}
 use Rattle.sha1.proofs.Short.{Words, word-at}
 
 -- the words of a state, each below 2 ^ 32 where the state is the code's

@@ -4,10 +4,10 @@ ghost use Prim.Native.Nat.{_+_, _*_, _≤_, _<_};
 ghost use lib.ListN.{length};
 ghost use Rattle.sha1.specs.Sha1 as fips;
 ghost use Rattle.sha1.specs.Ending.{Ends};
-use crate::State;
-use crate::compress;
-use crate::rounds::round_words;
-use crate::start;
+use sha1_rounds::State;
+use sha1_rounds::compress;
+use sha1_rounds::rounds::round_words;
+use sha1_rounds::start;
 
 // The sixteen words of the block at `at`.
 fn block(p: &[u8], at: usize) -> [u32; 16]

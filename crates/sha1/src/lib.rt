@@ -13,53 +13,17 @@ ghost use Rattle.sha1.specs.Sha1 as fips;
 
 mod blocks;
 mod padding;
-mod rounds;
-mod schedule;
 mod single;
 
 pub use blocks::output;
-pub use rounds::round_words;
+pub use sha1_rounds::State;
+pub use sha1_rounds::round_words;
 pub use single::six;
-
-// The five words that go from block to block (FIPS 180-4 6.1).
-pub struct State {
-    pub a: u32,
-    pub b: u32,
-    pub c: u32,
-    pub d: u32,
-    pub e: u32,
-}
 
 // An answer, and the hash where it is 0: zeros where it is not.
 pub struct Hashed {
     pub answer: u16,
     pub bytes: [u8; 20],
-}
-
-// The starting words (FIPS 180-4 5.3.1).
-const START: [u32; 5] = [0x67452301, 0xefcdab89, 0x98badcfe, 0x10325476, 0xc3d2e1f0];
-
-// The state before the first block.
-fn start() -> State
-    ensures { λ r. ⌜ r ≡ fips.start ⌝ }
-{
-    State {
-        a: START[0],
-        b: START[1],
-        c: START[2],
-        d: START[3],
-        e: START[4],
-    }
-}
-
-// One block of sixteen words, the round words lent.
-fn compress(s: State, m: &[u32; 16], k: &[u32; 4]) -> State
-    requires { ⌜ now k ≡ fips.roundWords ⌝ }
-    ensures { λ r. ⌜ r ≡ fips.compress s (now (m .entry)) ⌝ }
-{
-    let w = schedule::schedule(m);
-    let r = rounds::eighty(&w, k, s);
-    rounds::sums(s, r)
 }
 
 // The state after a message within the limit, and what ends it.

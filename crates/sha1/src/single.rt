@@ -3,12 +3,12 @@
 ghost use mathlib.Core.Path.{_≡_};
 ghost use mathlib.Core.List.{[], _∷_};
 ghost use Rattle.sha1.specs.Sha1 as fips;
-use crate::State;
-use crate::rounds::span;
-use crate::rounds::sums;
-use crate::schedule::begun;
-use crate::schedule::extend;
-use crate::start;
+use sha1_rounds::State;
+use sha1_rounds::rounds::span;
+use sha1_rounds::rounds::sums;
+use sha1_rounds::schedule::begun;
+use sha1_rounds::schedule::extend;
+use sha1_rounds::start;
 
 // The hash of six words: they, the one bit, zeros and the length of 192 bits are one block.
 pub fn six(k: &[u32; 4], a: u32, b: u32, c: u32, d: u32, e: u32, f: u32) -> State

@@ -1,62 +1,97 @@
--- A verdict of 0 comes with the key: AES-ECB under it is reversible, so sealing and opening are each other's inverse. Assumes nothing.
+-- A verdict of 0 comes with the key: the step under it undoes itself, so sealing and opening are each other's inverse. Assumes nothing.
 use mathlib.Core.Path.{_≡_, ap, subst⁻¹, _∙_}
-use mathlib.Core.Bool.{true}
+use mathlib.Core.Bool.{Bool, true}
 use mathlib.Core.List.{List}
-use Prim.Native.Nat.{ℕ, _≤_, _<_}
+use Prim.Native.Nat.{ℕ, _≤_, _<_, _%_, _*_, _/_}
+use borrow.Author.Tests.{eq-eqb}
 use lib.Dec.{lit<}
 use lib.ListN.{length}
 use Rattle.octets.specs.Octets.{Bytes}
 use Rattle.aes.specs.Aes.{keyLength, expanded}
 use Rattle.aes.specs.declared.Expanded.{Expanded}
+use Rattle.steps.specs.Steps.{Sized, Reverses, whole, resumed}
+use Rattle.steps.proofs.Made.{length-open-all, length-seal-all}
+use Rattle.steps.proofs.Inverse.{step-reversible}
+use Rattle.blocks.specs.Blocks.{ecbBy, streamStart}
+use Rattle.blocks.specs.declared.Place.{Place}
+use Rattle.blocks.proofs.Aes.{under-started, expanded-rounds}
 use Rattle.descriptor.specs.Info.{described}
 use Rattle.descriptor.proofs.Laws as descriptor
+use Rattle.password.specs.Lock.{Lock}
 use Rattle.password.specs.Verdict.{judged, unlocked}
 use Rattle.password.specs.declared.Unlocked.{Unlocked}
 use Rattle.password.proofs.Laws as password
-use Rattle.blocks.specs.Blocks.{whole, ecb, encrypting, decrypting}
-use Rattle.blocks.proofs.Aes.{aes-ecb-reversible, encrypting-expanded, decrypting-expanded, expanded-rounds}
+use Rattle.lengths.specs.Lengths.{packageLimit}
+use Rattle.lengths.proofs.Fillings.{allowed-whole}
 use Rattle.sheet.specs.Frame.{Sound, OneToOne}
-use Rattle.sheet.specs.Sheet.{packageLimit, lengths, sheetKey, sealing, opening}
+use Rattle.sheet.specs.Scheme.{stepOf}
+use Rattle.sheet.specs.Sheet.{lengths, sheetKey, sheetStep, sealing, opening}
 use Rattle.sheet.proofs.Frame.{inverse}
-use Rattle.sheet.proofs.Fillings.{allowed-whole}
+use Rattle.sheet.proofs.Scheme.{step-width, step-sized, step-reverses}
 
-module _ (info p : List ℕ) (v : judged info p ≡ 0) where
-  pub key-fits : keyLength (length (sheetKey info p)) ≡ true
+module _ (lock : Lock) where
+  pub key-bytes : Bytes (sheetKey lock)
   unfolding sheetKey
-  key-fits = password.key-fits (described info) p (descriptor.well-formed info (password.admitted info p v))
-
-  pub key-bytes : Bytes (sheetKey info p)
-  unfolding sheetKey
-  key-bytes = password.key-bytes (described info) p
+  key-bytes = password.key-bytes (described (lock .info)) (lock .password)
 
   -- ---- demand 3's instance of the frame
 
-  pub sound : Sound lengths whole (sealing info p) (opening info p)
+  -- a ciphertext is whole units
+  abbrev pub units : (size n : ℕ) → Bool
+  units size n = whole (sheetStep lock size .width) n
+
+  module _ (size : ℕ) where
+    width : sheetStep lock size .width ≡ 16
+    unfolding sheetStep
+    width = step-width (described (lock .info)) (sheetKey lock) size
+
+    sized : Sized (sheetStep lock size)
+    unfolding sheetStep
+    sized = step-sized (described (lock .info)) (sheetKey lock) size
+
+    reverses : Reverses (sheetStep lock size)
+    unfolding sheetStep
+    reverses = step-reverses (described (lock .info)) (sheetKey lock) size key-bytes
+
+    pub length-sealed : (s : List ℕ) → length (sealing lock size s) ≡ 16 * (length s / 16)
+    unfolding sealing
+    length-sealed s = length-seal-all (sheetStep lock size) sized s ∙ rw width
+
+    pub length-opened : (s : List ℕ) → length (opening lock size s) ≡ 16 * (length s / 16)
+    unfolding opening
+    length-opened s = length-open-all (sheetStep lock size) sized s ∙ rw width
+
+    fitting : (n : ℕ) → n % 16 ≡ 0 → units size n ≡ true
+    unfolding whole
+    fitting n h = rw width (eq-eqb (n % 16) 0 h)
+
+  pub sound : Sound lengths units (sealing lock) (opening lock)
   unfolding lengths packageLimit sealing opening
   sound =
       record {
-        reversible = aes-ecb-reversible (sheetKey info p) key-bytes;
-        fitting = λ size n h e. allowed-whole size n e;
+        reversible = λ size. step-reversible (sheetStep lock size) (reverses size);
+        fitting = λ size n h e. fitting size _ (allowed-whole size n e);
         held = lit< tt;
       }
 
-  pub inverted : OneToOne lengths (sealing info p) (opening info p)
-  inverted = inverse lengths whole (sealing info p) (opening info p) sound
+  pub inverted : OneToOne lengths (sealing lock) (opening lock)
+  inverted = inverse lengths units (sealing lock) (opening lock) sound
 
   -- ---- the key as `unlock` gives it
 
-  module _ (u : Unlocked) (e : u ≡ unlocked info p) where
-    is : u .key ≡ expanded (sheetKey info p)
+  module _ (v : judged lock ≡ 0) (u : Unlocked) (e : u ≡ unlocked lock) where
+    key-fits : keyLength (length (sheetKey lock)) ≡ true
     unfolding sheetKey
-    is = ap (λ (x : Unlocked). x .key) e ∙ password.unlocked-key info p v
+    key-fits = password.key-fits (described (lock .info)) (lock .password) (descriptor.well-formed (lock .info) (password.admitted lock v))
+
+    is : u .key ≡ expanded (sheetKey lock)
+    unfolding sheetKey
+    is = ap (λ (x : Unlocked). x .key) e ∙ password.unlocked-key lock v
 
     pub rounds-known : (0 < u .key .rounds) × (u .key .rounds ≤ 14)
-    rounds-known = subst⁻¹ (λ (x : Expanded). (0 < x .rounds) × (x .rounds ≤ 14)) is (expanded-rounds (sheetKey info p) key-fits)
+    rounds-known = subst⁻¹ (λ (x : Expanded). (0 < x .rounds) × (x .rounds ≤ 14)) is (expanded-rounds (sheetKey lock) key-fits)
 
-    pub encrypts : ecb (encrypting (u .key)) ≡ sealing info p
-    unfolding sealing
-    encrypts = ap (λ (x : Expanded). ecb (encrypting x)) is ∙ ap ecb (encrypting-expanded (sheetKey info p) key-fits)
-
-    pub decrypts : ecb (decrypting (u .key)) ≡ opening info p
-    unfolding opening
-    decrypts = ap (λ (x : Expanded). ecb (decrypting x)) is ∙ ap ecb (decrypting-expanded (sheetKey info p) key-fits)
+    -- taken up at its start, a stream's step is the one of the key, for every size
+    pub step-under : (p : Place) (size : ℕ) → p ≡ streamStart → resumed (p .number) (p .before) (ecbBy (u .key .bytes) (u .key .rounds)) ≡ sheetStep lock size
+    unfolding sheetStep stepOf
+    step-under p size s = under-started (sheetKey lock) key-fits (u .key) p is s

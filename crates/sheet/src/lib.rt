@@ -8,147 +8,47 @@
 //
 // Warning: AES in ECB mode lets equal blocks be seen to be equal, and nothing here tells whether a stream was changed.
 ghost use mathlib.Core.Path.{_≡_};
-ghost use mathlib.Core.Bool.{not};
-ghost use Prim.Native.Nat.{_-_, _≤_};
-ghost use lib.ListN.{length, take};
-ghost use Rattle.octets.specs.Octets.{leAt, zeroFrom};
 ghost use Rattle.answers.specs.Rules.{firstOf};
-ghost use Rattle.sheet.specs.Sheet as Sheet;
-ghost use Rattle.sheet.specs.Sheet.{left, reply, opened, sealed};
+ghost use Rattle.answers.specs.Ended.{left};
+ghost use Rattle.password.specs.Lock.{lockOf};
+ghost use Rattle.sheet.specs.Sheet.{streamRules, packageRules, opened, sealed};
+use answers::Reply;
 
-// The most bytes of a package.
-const LIMIT: usize = 268435456;
-
-// What `open` and `seal` answer: 0 beside the number of bytes written, or the first broken rule's number beside 0.
-pub struct Reply {
-    pub answer: u16,
-    pub size: usize,
-}
-
-// Whether a package of that size may have an extra block: it is above 0 and a multiple of 4,096 (003, "Edge case").
-fn takes_extra(size: usize) -> bool
-    ensures { λ r. ⌜ r ≡ Sheet.takesExtra size ⌝ }
-{
-    if size == 0 {
-        return false;
-    }
-    size % 4096 == 0
-}
-
-// A size brought to a multiple of 16, or a whole block past it where that is chosen and the size takes one. Within the limit nothing
-// wraps.
-fn rounded(extra: bool, size: usize) -> usize
-    requires { ⌜ size ≤ Sheet.packageLimit ⌝ }
-    ensures { λ r. ⌜ r ≡ Sheet.rounded extra size ⌝ }
-{
-    if extra {
-        if takes_extra(size) {
-            return size + 16;
-        }
-    }
-    size + (16 - size % 16) % 16
-}
-
-// StreamSize: all eight bytes, so that no larger size passes for a smaller one.
-fn stream_size(stream: &[u8]) -> usize
-    ensures { λ r. ⌜ r ≡ leAt 8 0 (now (stream .entry)) ⌝ }
-{
-    octets::le64(stream, 0) as usize
-}
-
-// The reply of a call that has written `size` bytes, and zeros after them.
-fn done(size: usize, out: &mut [u8]) -> Reply
-    ensures { λ r. ⌜ (r ≡ reply 0 size) × (now (out .exit) ≡ zeroFrom size (now (out .entry))) ⌝ }
-{
-    octets::zero_from(out, size);
-    Reply {
-        answer: answers::DONE,
-        size,
-    }
-}
-
-// How a call ends: with answer 0 after it has written `size` bytes; with any other size 0, and out as it is.
-pub fn ended(answer: u16, size: usize, out: &mut [u8]) -> Reply
-    ensures { λ r. ⌜ left r (now (out .exit)) ≡ Sheet.ended answer size (take size (now (out .entry))) (now (out .entry)) ⌝ }
-{
-    if answer != answers::DONE {
-        return Reply { answer, size: 0 };
-    }
-    done(size, out)
-}
-
-// How many bytes stand after the first eight.
-fn ciphertext(stream: &[u8]) -> usize
-    ensures { λ r. ⌜ r ≡ length (now (stream .entry)) - 8 ⌝ }
-{
-    if stream.len() < 8 {
-        return 0;
-    }
-    stream.len() - 8
-}
-
-// Whether n bytes are neither `size` rounded up to a multiple of 16 nor, where it takes one, an extra block more. Nothing is rounded, so
-// that no size wraps.
-fn bad_ciphertext(n: usize, size: usize) -> bool
-    ensures { λ r. ⌜ r ≡ not (Sheet.lengthAllowed size n) ⌝ }
-{
-    if n < size {
-        return true;
-    }
-    let more = n - size;
-    if more == 16 {
-        return !takes_extra(size);
-    }
-    if 16 < more {
-        return true;
-    }
-    n % 16 != 0
-}
-
-// The first of the rules 13 to 16 that a stream breaks, given the room of the output; 0 where it breaks none.
+// The first rule on a stream's lengths and the room for its package that is broken; 0 where none is.
 fn stream_answer(stream: &[u8], room: usize) -> u16
-    ensures { λ r. ⌜ r ≡ firstOf (Sheet.streamRules (now (stream .entry)) room) ⌝ }
+    ensures { λ r. ⌜ r ≡ firstOf (streamRules (now (stream .entry)) room) ⌝ }
 {
-    let size = stream_size(stream);
-    let bad = bad_ciphertext(ciphertext(stream), size);
-    let rest = answers::first(room < size, answers::ROOM, answers::DONE);
-    let rest = answers::first(bad, answers::STREAM_LENGTH, rest);
-    let rest = answers::first(LIMIT < size, answers::STREAM_SIZE, rest);
-    answers::first(stream.len() < 8, answers::STREAM_SHORT, rest)
+    let size = lengths::stream_size(stream);
+    answers::then(
+        lengths::stream_answer(stream.len(), size),
+        answers::room_answer(room, size),
+    )
 }
 
-// The first of the rules 14 and 16 that a package of that size breaks, given the choice of an extra block and the room of the output; 0
-// where it breaks none.
-fn pack_answer(extra: bool, size: usize, room: usize) -> u16
-    ensures { λ r. ⌜ r ≡ firstOf (Sheet.packRules extra size room) ⌝ }
+// The first rule on a package's size and the room for its stream that is broken; 0 where none is. A size above the limit is not rounded.
+fn package_answer(extra: bool, size: usize, room: usize) -> u16
+    ensures { λ r. ⌜ r ≡ firstOf (packageRules extra size room) ⌝ }
 {
-    if LIMIT < size {
-        return answers::STREAM_SIZE;
+    let a = lengths::package_answer(size);
+    if a != answers::DONE {
+        return a;
     }
-    answers::first(
-        room < 8 + rounded(extra, size),
-        answers::ROOM,
-        answers::DONE,
-    )
+    answers::room_answer(room, 8 + lengths::rounded(extra, size))
 }
 
 // Opens a package stream into out: as many bytes as StreamSize says, whatever its filling holds.
 pub fn open(info: &[u8], password: &[u16], stream: &[u8], out: &mut [u8]) -> Reply
-    ensures { λ r. ⌜ left r (now (out .exit)) ≡ opened (now (info .entry)) (now (password .entry)) (now (stream .entry)) (now (out .entry)) ⌝ }
+    ensures { λ r. ⌜ left r (now (out .exit)) ≡ opened (lockOf (now (info .entry)) (now (password .entry))) (now (stream .entry)) (now (out .entry)) ⌝ }
 {
     let u = password::unlock(info, password);
-    let a = u.answer;
+    let a = answers::then(u.answer, stream_answer(stream, out.len()));
     if a != answers::DONE {
-        return ended(a, 0, out);
+        return answers::ended(a, 0, out);
     }
-    let b = stream_answer(stream, out.len());
-    if b != answers::DONE {
-        return ended(b, 0, out);
-    }
-    let size = stream_size(stream);
+    let size = lengths::stream_size(stream);
     let key = u.key;
-    blocks::decrypt(key, &stream[8..], size, out);
-    ended(answers::DONE, size, out)
+    blocks::decrypt(key, blocks::start(), &stream[8..], size, out);
+    answers::ended(answers::DONE, size, out)
 }
 
 // Seals a package into out under an existing descriptor, its last block filled with the first of the filling bytes. Where the size takes
@@ -156,26 +56,22 @@ pub fn open(info: &[u8], password: &[u16], stream: &[u8], out: &mut [u8]) -> Rep
 pub fn seal(
     info: &[u8],
     password: &[u16],
-    contents: &[u8],
+    package: &[u8],
     filling: [u8; 16],
     extra: bool,
     out: &mut [u8],
 ) -> Reply
-    ensures { λ r. ⌜ left r (now (out .exit)) ≡ sealed (now (info .entry)) (now (password .entry)) (now (contents .entry)) filling extra (now (out .entry)) ⌝ }
+    ensures { λ r. ⌜ left r (now (out .exit)) ≡ sealed (lockOf (now (info .entry)) (now (password .entry))) (now («package» .entry)) filling extra (now (out .entry)) ⌝ }
 {
     let u = password::unlock(info, password);
-    let a = u.answer;
+    let n = package.len();
+    let a = answers::then(u.answer, package_answer(extra, n, out.len()));
     if a != answers::DONE {
-        return ended(a, 0, out);
+        return answers::ended(a, 0, out);
     }
-    let n = contents.len();
-    let b = pack_answer(extra, n, out.len());
-    if b != answers::DONE {
-        return ended(b, 0, out);
-    }
-    let whole = rounded(extra, n);
+    let whole = lengths::rounded(extra, n);
     let key = u.key;
     octets::put_le64(out, 0, n as u64);
-    blocks::encrypt(key, contents, filling, whole, out, 8);
-    ended(answers::DONE, 8 + whole, out)
+    blocks::encrypt(key, blocks::start(), package, filling, whole, out, 8);
+    answers::ended(answers::DONE, 8 + whole, out)
 }

@@ -17,7 +17,7 @@ fn derivation(name: &[u8], salt: [u8; 16], password: &[u16])
     lines::text(name);
     let h = password::password_hash(salt, password);
     hash(b": H ", h);
-    hash(b" B ", password::block_hash(h));
+    hash(b" B ", password::block_hash(0, h));
     let k = password::material(salt, password);
     lines::text(b" 16 ");
     lines::part(&k, 0, 16);

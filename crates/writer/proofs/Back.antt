@@ -1,34 +1,28 @@
--- A stream written here gives back its fields and its name, and its password is accepted: AES undoes itself on the verifier and on the
--- two blocks of its hash. Assumes nothing.
+-- A stream written here gives back its fields and its name, and its password is accepted: what was sealed of the verifier opens again.
+-- Assumes nothing.
 use mathlib.Core.Path.{_≡_, refl, sym, ap, _∙_}
 use mathlib.Core.Logic.{inl, inr}
-use mathlib.Core.List.{List, _++_}
-use Prim.Native.Nat.{ℕ, _+_, _/_, _%_}
+use mathlib.Core.List.{List}
+use Prim.Native.Nat.{ℕ, _+_, _/_}
 use native.Mathlib.Omega.{arith}
 use lib.Dec.{lit<}
-use lib.ListN.{length, take, drop, length-drop, take-append-drop}
-use lib.Seq.{take-at, drop-at, length-take-le}
+use lib.ListN.{length, take, drop}
 use Rattle.octets.specs.Octets.{Bytes}
-use Rattle.octets.proofs.Below.{append-below, nil-bytes}
-use Rattle.sha1.specs.Sha1.{sha1}
-use Rattle.sha1.proofs.Laws.{sha1-bytes}
-use Rattle.aes.specs.Aes.{encryption, decryption}
-use Rattle.aes.proofs.Keys.{length-encryption, encryption-bytes, decryption-encryption}
-use Rattle.descriptor.specs.Info.{keySize, described}
+use Rattle.octets.proofs.Below.{nil-bytes}
+use Rattle.descriptor.specs.Info.{keySize, algIdOf, described}
 use Rattle.descriptor.specs.LaidOut.{Fields}
 use Rattle.descriptor.specs.declared.Descriptor.{Descriptor}
 use Rattle.descriptor.specs.declared.Suite.{Suite}
+use Rattle.descriptor.proofs.Algorithms.{key-row}
 use Rattle.descriptor.proofs.Laws.{Admitted}
-use Rattle.descriptor.proofs.LaidOut.{Held, Sized, Good, reads, laid-bytes, laid-admitted, laid-described, laid-name, length-laid}
-use Rattle.password.specs.Verdict.{keyOf, matches, judged}
-use Rattle.password.proofs.Laws.{keyBytes-bytes, keyOf-is, matching, accepted}
-use Rattle.blocks.specs.Stream.{Fit}
-use Rattle.blocks.specs.Blocks.{whole}
-use Rattle.blocks.proofs.Reversible.{whole-fit}
-use Rattle.blocks.proofs.Ecb.{ecb-two}
-use Rattle.blocks.proofs.Aes.{aes-ecb-reversible}
-use Rattle.writer.specs.Written.{algIdOf, verifierField, hashField, newFields, infoOf}
-use Rattle.writer.proofs.Laws.{key-size, Writable, newKey, hash-filled, length-hash}
+use Rattle.descriptor.proofs.LaidOut.{Held, Measured, Good, reads, laid-bytes, laid-admitted, laid-described, laid-name, length-laid}
+use Rattle.password.specs.Lock.{lockOf}
+use Rattle.password.specs.Verifier.{verifierSealing, verifierOpening, verifierField, hashField, matches}
+use Rattle.password.specs.Verdict.{judged}
+use Rattle.password.proofs.Fields.{length-fields, fields-match, fields-bytes}
+use Rattle.password.proofs.Laws.{Matched, keyBytes-bytes, keyOf-is, accepted}
+use Rattle.writer.specs.Written.{newFields, infoOf}
+use Rattle.writer.proofs.Laws.{Writable, newKey}
 
 module _ (bits : ℕ) (password name salt verifier filling : List ℕ) where
   abbrev info : List ℕ
@@ -40,7 +34,7 @@ module _ (bits : ℕ) (password name salt verifier filling : List ℕ) where
     pub verifier-long : length verifier ≡ 16
     pub filling-long : length filling ≡ 12
     pub room : ℕ
-    pub fits : Writable bits (length password) (length name) room
+    pub fits : Writable bits password (length name) room
 
   abbrev key : List ℕ
   key = newKey bits salt password
@@ -54,19 +48,16 @@ module _ (bits : ℕ) (password name salt verifier filling : List ℕ) where
       record {
         major = 3;
         minor = 2;
-        alg = algIdOf bits;
-        key = record { 0 = bits / 8 };
-        place = 44;
-        name = length name;
+        «alg_id» = algIdOf bits;
+        «key_size» = record { 0 = bits / 8 };
+        «name_place» = 44;
+        «name_length» = length name;
         salt = salt;
-        verifier = verifierField key verifier;
-        hash = hashField key verifier filling;
+        «encrypted_verifier» = verifierField (verifierSealing key) verifier filling;
+        «encrypted_verifier_hash» = hashField (verifierSealing key) verifier filling;
       }
 
   module _ (g : Given) where
-    two-blocks : length (sha1 verifier ++ filling) ≡ 32
-    two-blocks = hash-filled verifier filling (g .filling-long)
-
     held : Held fields
     unfolding newFields
     held =
@@ -75,22 +66,25 @@ module _ (bits : ℕ) (password name salt verifier filling : List ℕ) where
           minor = lit< tt;
           header = omega (arith, g .fits .short);
           extra = lit< tt;
-          alg = key-size bits (g .fits .key) .alg-small;
+          alg = omega (arith, key-row bits (g .fits .key) .low);
           hash = lit< tt;
-          key = omega (arith, key-size bits (g .fits .key) .few);
+          key = omega (arith, key-row bits (g .fits .key) .few);
           salt = lit< tt;
           verifier = lit< tt;
         }
 
-    sized : Sized fields
-    unfolding newFields verifierField
+    lengths : (length (verifierField (verifierSealing key) verifier filling) ≡ 16) × (length (hashField (verifierSealing key) verifier filling) ≡ 32)
+    lengths = length-fields verifier filling (g .verifier-long) (g .filling-long) key
+
+    sized : Measured fields
+    unfolding newFields
     sized =
         record {
           header = omega arith;
           extra = refl;
           salt = g .salt-long;
-          verifier = length-encryption key verifier;
-          hash = length-hash key verifier filling (g .filling-long);
+          verifier = lengths .0;
+          hash = lengths .1;
         }
 
     good : Good fields
@@ -101,9 +95,9 @@ module _ (bits : ℕ) (password name salt verifier filling : List ℕ) where
           major = inr (inl refl);
           header = omega (arith, g .fits .short);
           even = g .fits .even;
-          alg = ap (λ (x : Suite). x .answer) (key-size bits (g .fits .key) .suite-is);
+          alg = ap (λ (x : Suite). x .answer) (key-row bits (g .fits .key) .suite-is);
           hash = refl;
-          key = sym (ap (λ (x : Suite). x .bits .0) (key-size bits (g .fits .key) .suite-is));
+          key = sym (ap (λ (x : Suite). x .bits .0) (key-row bits (g .fits .key) .suite-is));
           salt = refl;
           verifier = refl;
         }
@@ -130,34 +124,15 @@ module _ (bits : ℕ) (password name salt verifier filling : List ℕ) where
     info-bits = reads fields held .key
 
     pub info-bytes : Bytes name → Bytes salt → Bytes verifier → Bytes filling → Bytes info
-    unfolding infoOf newFields verifierField hashField
+    unfolding infoOf newFields
     info-bytes n b v r =
-        let k : Bytes key = keyBytes-bytes (bits / 8) salt password in
-        let hash : Bytes (sha1 verifier ++ filling) = append-below _ _ (sha1-bytes verifier) r in
-        let fit : Fit whole (sha1 verifier ++ filling) = whole-fit (ap (λ (n : ℕ). n % 16) two-blocks) hash in
-        laid-bytes fields n nil-bytes b (encryption-bytes key verifier k v) (aes-ecb-reversible key k .forth .bytes (sha1 verifier ++ filling) fit)
+        let f = fields-bytes verifier filling (g .verifier-long) (g .filling-long) key (keyBytes-bytes (bits / 8) salt password) v r in
+        laid-bytes fields n nil-bytes b (f .0) (f .1)
 
-    -- the two fields decrypt to the verifier, and to its hash and the filling
-    verifier-back : decryption key (verifierField key verifier) ≡ verifier
-    unfolding verifierField
-    verifier-back = decryption-encryption key verifier (g .verifier-long)
-
-    hash-back : let h = hashField key verifier filling in decryption key (take 16 h) ++ decryption key (drop 16 h) ≡ sha1 verifier ++ filling
-    unfolding hashField
-    hash-back =
-        let s : List ℕ = sha1 verifier ++ filling in
-        let x : List ℕ = encryption key (take 16 s) in
-        let y : List ℕ = encryption key (drop 16 s) in
-        let n : length x ≡ 16 = length-encryption key (take 16 s) in
-        let first : length (take 16 s) ≡ 16 = length-take-le 16 s (omega (arith, two-blocks)) in
-        let second : length (drop 16 s) ≡ 16 = rw (length-drop, two-blocks) in
-        rw (ecb-two (encryption key) s two-blocks, take-at x y 16 n, drop-at x y 16 n, decryption-encryption key (take 16 s) first, decryption-encryption key (drop 16 s) second)
-        (take-append-drop 16 s)
-
-    -- so the password is accepted
-    pub info-accepted : judged info password ≡ 0
+    -- the fields open to what was sealed, so the password is accepted
+    pub info-accepted : judged (lockOf info password) ≡ 0
     info-accepted =
-        accepted info password info-admitted (g .fits .typed)
-        (ap (λ (d : Descriptor). matches (keyOf d password) (d .verifier) (d .hash)) info-described
-        ∙ ap (λ (k : List ℕ). matches k (verifierField key verifier) (hashField key verifier filling)) (keyOf-is newDescriptor password)
-        ∙ matching key verifier (verifierField key verifier) (hashField key verifier filling) filling verifier-back hash-back)
+        accepted (lockOf info password) info-admitted (g .fits .typed)
+        (ap (λ (d : Descriptor). Matched d password) info-described
+        ∙ ap (λ (k : List ℕ). matches (verifierOpening k) (verifierField (verifierSealing key) verifier filling) (hashField (verifierSealing key) verifier filling)) (keyOf-is newDescriptor password)
+        ∙ fields-match verifier filling (g .verifier-long) (g .filling-long) key (keyBytes-bytes (bits / 8) salt password))

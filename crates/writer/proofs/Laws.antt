@@ -1,97 +1,100 @@
--- The key sizes, what the writer accepts, how long the hash field is, and the two ways out. Assumes nothing.
-use mathlib.Core.Path.{_≡_, refl, ap, _∙_}
-use mathlib.Core.Logic.{_↔_, inl, inr}
-use mathlib.Core.Bool.{true, false, not, true≢false}
+-- What the writer accepts, and the two ways out. Assumes nothing.
+use mathlib.Core.Path.{_≡_, refl, sym, ap, _∙_}
+use mathlib.Core.Logic.{_↔_}
+use mathlib.Core.Bool.{true, not}
 use mathlib.Core.List.{List, [], _∷_, _++_}
-use Prim.Native.Nat.{ℕ, _+_, _-_, _/_, _%_, _^_, _≤_, _<_}
+use Prim.Native.Nat.{ℕ, _+_, _-_, _/_, _%_, _≤_}
 use native.Mathlib.Omega.{arith}
 use borrow.Author.Tests.{le-ltb, ltb-false, eqb-true, eq-eqb, not-false}
-use lib.Dec.{T, eqb, lit<, lit≤}
-use lib.ListN.{length, replicate, length-append}
-use Rattle.answers.specs.Rules.{firstOf, numbered, OneOf}
-use Rattle.answers.proofs.Laws.{either, rule-holds, none-broken}
+use lib.Dec.{T}
+use lib.ListN.{length, replicate}
+use Rattle.answers.specs.Rules.{firstOf, after, roomRules, numbered, numbers, OneOf}
+use Rattle.answers.specs.Ended.{Left, left, reply}
+use Rattle.answers.proofs.Laws.{none-broken, then, stop, in-turn, both-zero, both-numbered, numbers-both, room-numbered, room-numbers, roomy}
 use Rattle.answers.proofs.Rows.{_and_}
-use Rattle.sha1.specs.Sha1.{sha1}
-use Rattle.sha1.proofs.Laws.{length-sha1}
+use Rattle.answers.proofs.Endings.{ended-answer, ended-done}
 use Rattle.aes.specs.Aes.{keyLength}
 use Rattle.aes.proofs.Keys.{key-lengths}
-use Rattle.descriptor.specs.Info.{suiteOf, suite}
-use Rattle.descriptor.proofs.Laws.{in-bytes, suites}
+use Rattle.descriptor.proofs.Algorithms.{key-row, key-known, in-bytes}
 use Rattle.password.specs.Key.{keyBytes}
-use Rattle.password.proofs.Laws.{length-keyBytes}
-use Rattle.blocks.proofs.Aes.{length-encrypted}
-use Rattle.sheet.specs.Sheet.{Left, left, reply, lacks}
-use Rattle.sheet.proofs.Laws.{ended-answer, ended-refused, ended-done}
-use Rattle.writer.specs.Written.{algIdOf, nameLimit, infoSize, writeRules, hashField, infoOf, written}
-
--- ---- the key sizes
-
--- what is so of each of the three
-pub record Key (bits : ℕ) : Type 0 where
-  pub named : eqb (algIdOf bits) 0 ≡ false
-  pub suite-is : suiteOf (algIdOf bits) ≡ suite 0 bits (bits / 32 + 6)
-  pub alg-small : algIdOf bits < 256 ^ 4
-  pub few : bits ≤ 256
-
-pub key-size : (bits : ℕ) → OneOf (128 ∷ 192 ∷ 256 ∷ []) bits → Key bits
-unfolding algIdOf
-key-size bits (inl e) = rw e (record { named = refl; suite-is = suites .0; alg-small = lit< tt; few = lit≤ tt })
-key-size bits (inr (inl e)) = rw e (record { named = refl; suite-is = suites .1; alg-small = lit< tt; few = lit≤ tt })
-key-size bits (inr (inr (inl e))) = rw e (record { named = refl; suite-is = suites .2; alg-small = lit< tt; few = lit≤ tt })
-key-size bits (inr (inr (inr e))) = absurd e
-
--- and no other has an AlgID
-key-known : (bits : ℕ) → eqb (algIdOf bits) 0 ≡ false → OneOf (128 ∷ 192 ∷ 256 ∷ []) bits
-unfolding algIdOf
-key-known bits h =
-    elim (either (eqb bits 128)) [
-      | inl e ↦ inl (eqb-true bits 128 e)
-      | inr e ↦ elim (either (eqb bits 192)) [
-        | inl f ↦ inr (inl (eqb-true bits 192 f))
-        | inr f ↦ elim (either (eqb bits 256)) [
-          | inl g ↦ inr (inr (inl (eqb-true bits 256 g)))
-          | inr g ↦ absurd (true≢false (rw (e, f, g) at h))
-        ]
-      ]
-    ]
+use Rattle.password.specs.Verdict.{textRules}
+use Rattle.password.proofs.Laws.{length-keyBytes, text-numbered, text-numbers, text-short}
+use Rattle.writer.specs.Written.{nameLimit, infoSize, fieldRules, writeRules, infoOf, written}
 
 -- ---- what is accepted
 
-pub record Writable (bits units name room : ℕ) : Type 0 where
+pub record Writable (bits : ℕ) (password : List ℕ) (name room : ℕ) : Type 0 where
   pub short : name ≤ 4064
   pub even : name % 2 ≡ 0
   pub key : OneOf (128 ∷ 192 ∷ 256 ∷ []) bits
-  pub typed : units ≤ 255
+  pub typed : length password ≤ 255
   pub roomy : 116 + name ≤ room
 
-module _ (bits units name room : ℕ) where
-  pub write-numbered : T (numbered (writeRules bits units name room))
+module _ (bits name : ℕ) where
+  field-numbered : T (numbered (fieldRules bits name))
+  unfolding fieldRules
+  field-numbered = tt
+
+  field-numbers : numbers (fieldRules bits name) ≡ 3 ∷ 5 ∷ 8 ∷ []
+  unfolding fieldRules
+  field-numbers = refl
+
+  -- the rules on what is laid out
+  pub to-fields : firstOf (fieldRules bits name) ≡ 0 → (name ≤ 4064) × (name % 2 ≡ 0) × OneOf (128 ∷ 192 ∷ 256 ∷ []) bits
+  unfolding fieldRules nameLimit
+  to-fields h =
+      let k = none-broken (fieldRules bits name) tt .0 h in
+      (ltb-false _ _ (k .0), eqb-true _ _ (not-false _ (k .1 .0)), key-known bits (k .1 .1 .0))
+
+  of-fields : name ≤ 4064 → name % 2 ≡ 0 → OneOf (128 ∷ 192 ∷ 256 ∷ []) bits → firstOf (fieldRules bits name) ≡ 0
+  unfolding fieldRules nameLimit
+  of-fields s e k = none-broken (fieldRules bits name) tt .1 (le-ltb _ _ s and ap not (eq-eqb _ _ e) and key-row bits k .named and tt)
+
+module _ (bits : ℕ) (password : List ℕ) (name room : ℕ) where
+  early-numbered : T (numbered (fieldRules bits name ++ textRules password))
+  early-numbered = both-numbered (fieldRules bits name) (textRules password) (field-numbered bits name) (text-numbered password)
+
+  pub write-numbered : T (numbered (writeRules bits password name room))
   unfolding writeRules
-  write-numbered = tt
+  write-numbered = both-numbered (fieldRules bits name ++ textRules password) (roomRules room (infoSize name)) early-numbered (room-numbered room (infoSize name))
 
-  to-writable : firstOf (writeRules bits units name room) ≡ 0 → Writable bits units name room
-  unfolding writeRules nameLimit infoSize lacks
+  pub write-numbers : numbers (writeRules bits password name room) ≡ 3 ∷ 5 ∷ 8 ∷ 11 ∷ 16 ∷ []
+  unfolding writeRules
+  write-numbers =
+      numbers-both (fieldRules bits name ++ textRules password) (roomRules room (infoSize name))
+      ∙ rw (numbers-both (fieldRules bits name) (textRules password), field-numbers bits name, text-numbers password, room-numbers room (infoSize name))
+
+  -- what is laid out decides, and after it the text and the room
+  pub by-fields : (firstOf (fieldRules bits name) ≡ 0 → ⊥) → firstOf (writeRules bits password name room) ≡ firstOf (fieldRules bits name)
+  unfolding writeRules
+  by-fields h =
+      let e = stop (fieldRules bits name) (textRules password) h in
+      stop (fieldRules bits name ++ textRules password) (roomRules room (infoSize name)) (λ z. h (sym e ∙ z)) ∙ e
+
+  pub after-fields : firstOf (fieldRules bits name) ≡ 0
+      → firstOf (writeRules bits password name room) ≡ after (firstOf (textRules password)) (firstOf (roomRules room (infoSize name)))
+  unfolding writeRules
+  after-fields h =
+      in-turn (fieldRules bits name ++ textRules password) (roomRules room (infoSize name)) early-numbered
+      ∙ rw (then (fieldRules bits name) (textRules password) (field-numbered bits name) h)
+
+  to-writable : firstOf (writeRules bits password name room) ≡ 0 → Writable bits password name room
+  unfolding writeRules infoSize
   to-writable h =
-      record {
-        short = ltb-false _ _ (rule-holds 3 (writeRules bits units name room) write-numbered h);
-        even = eqb-true _ _ (not-false _ (rule-holds 5 (writeRules bits units name room) write-numbered h));
-        key = key-known bits (rule-holds 8 (writeRules bits units name room) write-numbered h);
-        typed = ltb-false _ _ (rule-holds 11 (writeRules bits units name room) write-numbered h);
-        roomy = ltb-false _ _ (rule-holds 16 (writeRules bits units name room) write-numbered h);
-      }
+      let z = both-zero (fieldRules bits name ++ textRules password) (roomRules room (infoSize name)) early-numbered h in
+      let y = both-zero (fieldRules bits name) (textRules password) (field-numbered bits name) (z .0) in
+      let f = to-fields bits name (y .0) in
+      record { short = f .0; even = f .1; key = f .2; typed = text-short password .0 (y .1); roomy = roomy room (infoSize name) .0 (z .1) }
 
-  of-writable : Writable bits units name room → firstOf (writeRules bits units name room) ≡ 0
-  unfolding writeRules nameLimit infoSize lacks
+  of-writable : Writable bits password name room → firstOf (writeRules bits password name room) ≡ 0
+  unfolding writeRules infoSize
   of-writable w =
-      none-broken (writeRules bits units name room) write-numbered .1
-      (le-ltb _ _ (w .short)
-      and ap not (eq-eqb _ _ (w .even))
-      and key-size bits (w .key) .named
-      and le-ltb _ _ (w .typed)
-      and le-ltb _ _ (w .roomy)
-      and tt)
+      then (fieldRules bits name ++ textRules password) (roomRules room (infoSize name)) early-numbered
+      (then (fieldRules bits name) (textRules password) (field-numbered bits name) (of-fields bits name (w .short) (w .even) (w .key))
+      ∙ text-short password .1 (w .typed))
+      ∙ roomy room (infoSize name) .1 (w .roomy)
 
-  pub writable : (firstOf (writeRules bits units name room) ≡ 0) ↔ Writable bits units name room
+  pub writable : (firstOf (writeRules bits password name room) ≡ 0) ↔ Writable bits password name room
   writable = (λ h. to-writable h, λ w. of-writable w)
 
 -- ---- the key
@@ -102,23 +105,13 @@ newKey bits salt password = keyBytes (bits / 8) salt password
 
 pub key-fits : (bits : ℕ) (salt password : List ℕ) → OneOf (128 ∷ 192 ∷ 256 ∷ []) bits → keyLength (length (newKey bits salt password)) ≡ true
 key-fits bits salt password k =
-    rw (length-keyBytes (bits / 8) salt password (omega (arith, key-size bits k .few))) (key-lengths (bits / 8) (in-bytes bits k))
-
--- ---- the hash field
-
--- the hash and its filling are two blocks, and so is the field
-pub hash-filled : (verifier filling : List ℕ) → length filling ≡ 12 → length (sha1 verifier ++ filling) ≡ 32
-hash-filled verifier filling l = simp (length-append, length-sha1, l)
-
-pub length-hash : (key verifier filling : List ℕ) → length filling ≡ 12 → length (hashField key verifier filling) ≡ 32
-unfolding hashField
-length-hash key verifier filling l = length-encrypted key (sha1 verifier ++ filling) ∙ rw (hash-filled verifier filling l)
+    rw (length-keyBytes (bits / 8) salt password (omega (arith, key-row bits k .few))) (key-lengths (bits / 8) (in-bytes bits k))
 
 -- ---- the ways out
 
 module _ (bits : ℕ) (password name salt verifier filling out : List ℕ) where
   abbrev answer : ℕ
-  answer = firstOf (writeRules bits (length password) (length name) (length out))
+  answer = firstOf (writeRules bits password (length name) (length out))
 
   abbrev given : Left
   given = written bits password name salt verifier filling out
@@ -126,10 +119,6 @@ module _ (bits : ℕ) (password name salt verifier filling out : List ℕ) where
   pub write-answer : given .reply .answer ≡ answer
   unfolding written
   write-answer = ended-answer _ _ _ _
-
-  pub write-refused : (answer ≡ 0 → ⊥) → given ≡ left (reply answer 0) out
-  unfolding written
-  write-refused = ended-refused answer (infoSize (length name)) (infoOf bits password name salt verifier filling) out
 
   pub write-done : answer ≡ 0
       → given ≡ left (reply 0 (116 + length name)) (infoOf bits password name salt verifier filling ++ replicate (length out - (116 + length name)) 0)

@@ -1,31 +1,20 @@
 // The 44 bytes before the provider name (004 2.3.4.5 and 2.3.2).
 ghost use mathlib.Core.Path.{_≡_};
-ghost use mathlib.Core.List.{List};
+ghost use mathlib.Core.List.{List, flatMap};
 ghost use Prim.Native.Nat.{ℕ, _≤_};
 ghost use lib.ListN.{length};
+ghost use Rattle.octets.specs.Octets.{leBytes};
 ghost use Rattle.descriptor.specs.LaidOut as LaidOut;
 ghost use Rattle.writer.specs.Written as Written;
 use descriptor::BitCount;
+use descriptor::alg_id_of;
 
 // fCryptoAPI and fAES (004 2.3.1).
 const FLAGS: u32 = 0x24;
 
-// The AlgID whose key has so many bits, 0 where there is none.
-pub fn alg_id(bits: BitCount) -> u32
-    ensures { λ r. ⌜ r ≡ Written.algIdOf (bits .0) ⌝ }
-{
-    let n = bits.0;
-    match n {
-        128 => 0x660e,
-        192 => 0x660f,
-        256 => 0x6610,
-        _ => 0,
-    }
-}
-
 // Each number in four bytes.
 fn numbers(ns: [u32; 10]) -> [u8; 40]
-    ensures { λ r. ⌜ r ≡ LaidOut.fourBytesEach ns ⌝ }
+    ensures { λ r. ⌜ r ≡ flatMap (leBytes 4) ns ⌝ }
 {
     let mut b = [0u8; 40];
     let mut i = 0;
@@ -48,7 +37,7 @@ pub fn front(bits: BitCount, name: usize) -> [u8; 44]
         FLAGS,
         // SizeExtra
         0,
-        alg_id(bits),
+        alg_id_of(bits),
         // AlgIDHash: SHA-1
         0x8004,
         bits.0,

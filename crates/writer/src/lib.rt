@@ -8,46 +8,41 @@
 //
 // Warning: salt, verifier and filling have to be random, and nothing here can tell whether they are.
 ghost use mathlib.Core.Path.{_≡_};
-ghost use Prim.Native.Nat.{_/_, _≤_};
-ghost use lib.ListN.{length};
 ghost use Rattle.answers.specs.Rules.{firstOf};
-ghost use Rattle.aes.specs.Aes.{expanded};
-ghost use Rattle.password.specs.Key.{keyBytes};
-ghost use Rattle.sheet.specs.Sheet.{left};
+ghost use Rattle.answers.specs.Ended.{left};
 ghost use Rattle.writer.specs.Written as Written;
 
 mod header;
 mod verifier;
 
-use aes::Expanded;
+use answers::Reply;
 use descriptor::BitCount;
-use sheet::Reply;
 
 // The most bytes of a name.
 const NAME_LIMIT: usize = 4064;
 
-// The first rule that is broken, from the last to the first once the name is short enough for 116 and its bytes to be a number.
-fn answer(bits: BitCount, units: usize, name: usize, room: usize) -> u16
-    ensures { λ r. ⌜ r ≡ firstOf (Written.writeRules (bits .0) units name room) ⌝ }
+// The first of the rules 3, 5 and 8 that is broken; 0 where none is.
+fn fields_answer(bits: BitCount, name: usize) -> u16
+    ensures { λ r. ⌜ r ≡ firstOf (Written.fieldRules (bits .0) name) ⌝ }
 {
-    if NAME_LIMIT < name {
-        return answers::HEADER_SIZE;
-    }
-    let unknown = header::alg_id(bits) == 0;
-    let rest = answers::first(room < 116 + name, answers::ROOM, answers::DONE);
-    let rest = answers::first(255 < units, answers::PASSWORD_LONG, rest);
-    let rest = answers::first(unknown, answers::KEY_SIZE, rest);
-    answers::first(name % 2 != 0, answers::NAME_LENGTH, rest)
+    let unknown = descriptor::alg_id_of(bits) == 0;
+    let rest = answers::first(unknown, answers::KEY_SIZE, answers::DONE);
+    let rest = answers::first(name % 2 != 0, answers::NAME_LENGTH, rest);
+    answers::first(NAME_LIMIT < name, answers::HEADER_SIZE, rest)
 }
 
-// The key of a salt and a password, expanded.
-fn key(bits: BitCount, salt: [u8; 16], password: &[u16]) -> Expanded
-    requires { ⌜ (bits .0 ≤ 256) × (length (now password) ≤ 255) ⌝ }
-    ensures { λ r. ⌜ r ≡ expanded (keyBytes (bits .0 / 8) salt (now (password .entry))) ⌝ }
+// The first rule that is broken; 0 where none is. Only a name that is short enough is counted with the 116 bytes around it.
+fn answer(bits: BitCount, password: &[u16], name: usize, room: usize) -> u16
+    ensures { λ r. ⌜ r ≡ firstOf (Written.writeRules (bits .0) (now (password .entry)) name room) ⌝ }
 {
-    let n = descriptor::in_bytes(bits).0;
-    let material = password::material(salt, password);
-    aes::expand(&material[..n])
+    let a = fields_answer(bits, name);
+    if a != answers::DONE {
+        return a;
+    }
+    answers::then(
+        password::text_answer(password),
+        answers::room_answer(room, 116 + name),
+    )
 }
 
 // Writes EncryptionInfo into out.
@@ -63,14 +58,15 @@ pub fn write_info(
     ensures { λ r. ⌜ left r (now (out .exit)) ≡ Written.written (bits .0) (now (password .entry)) (now (name .entry)) salt verifier filling (now (out .entry)) ⌝ }
 {
     let n = name.len();
-    let a = answer(bits, password.len(), n, out.len());
+    let a = answer(bits, password, n, out.len());
     if a != answers::DONE {
-        return sheet::ended(a, 0, out);
+        return answers::ended(a, 0, out);
     }
     let front = header::front(bits, n);
-    let locked = verifier::locked(key(bits, salt, password), salt, verifier, filling);
+    let key = password::expanded_key(descriptor::in_bytes(bits), salt, password);
+    let locked = verifier::locked(key, salt, verifier, filling);
     octets::copy(&front, 0, 44, out, 0);
     octets::copy(name, 0, n, out, 44);
     octets::copy(&locked, 0, 72, out, 44 + n);
-    sheet::ended(answers::DONE, 116 + n, out)
+    answers::ended(answers::DONE, 116 + n, out)
 }

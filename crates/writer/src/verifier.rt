@@ -1,24 +1,36 @@
 // EncryptionVerifier, the 72 bytes after the provider name (004 2.3.3 and 2.3.4.8).
 ghost use mathlib.Core.Path.{_≡_};
 ghost use mathlib.Core.Bool.{true};
-ghost use mathlib.Core.List.{List, _++_};
+ghost use mathlib.Core.List.{List};
 ghost use Prim.Native.Nat.{ℕ, _≤_, _<_};
 ghost use lib.ListN.{length};
-ghost use Rattle.sha1.specs.Sha1.{sha1};
 ghost use Rattle.aes.specs.Aes.{keyLength, expanded};
 ghost use Rattle.descriptor.specs.LaidOut as LaidOut;
+ghost use Rattle.password.specs.Verifier.{verifierPlain, verifierSealing};
 ghost use Rattle.writer.specs.Written as Written;
 use aes::Expanded;
 
-// The verifier's hash, filled to two blocks.
-fn filled_hash(verifier: [u8; 16], filling: [u8; 12]) -> [u8; 32]
-    ensures { λ r. ⌜ r ≡ sha1 verifier ++ filling ⌝ }
+// The verifier, its hash, and the bytes that fill its last block.
+fn plain(verifier: [u8; 16], filling: [u8; 12]) -> [u8; 48]
+    ensures { λ r. ⌜ r ≡ verifierPlain verifier filling ⌝ }
 {
     let digest = sha1::output(sha1::hash(&verifier));
-    let mut h = [0u8; 32];
-    octets::copy(&digest, 0, 20, &mut h, 0);
-    octets::copy(&filling, 0, 12, &mut h, 20);
-    h
+    let mut b = [0u8; 48];
+    octets::copy(&verifier, 0, 16, &mut b, 0);
+    octets::copy(&digest, 0, 20, &mut b, 16);
+    octets::copy(&filling, 0, 12, &mut b, 36);
+    b
+}
+
+// They, encrypted under the expanded key of a key.
+fn sealed(key: Expanded, plain: [u8; 48]) -> [u8; 48]
+    requires { ⌜ (0 < key .rounds) × (key .rounds ≤ 14) ⌝ }
+    ensures { λ r. ⌜ ((k : List ℕ) → keyLength (length k) ≡ true → key ≡ expanded k → r ≡ verifierSealing k plain) ⌝ }
+{
+    let none = [0u8; 16];
+    let mut b = [0u8; 48];
+    blocks::encrypt(key, blocks::start(), &plain, none, 48, &mut b, 0);
+    b
 }
 
 // SaltSize, the salt, the verifier, VerifierHashSize and the verifier's hash, under the expanded key of a key.
@@ -26,13 +38,12 @@ pub fn locked(key: Expanded, salt: [u8; 16], verifier: [u8; 16], filling: [u8; 1
     requires { ⌜ (0 < key .rounds) × (key .rounds ≤ 14) ⌝ }
     ensures { λ r. ⌜ ((bits : ℕ) (k name : List ℕ) → keyLength (length k) ≡ true → key ≡ expanded k → r ≡ LaidOut.verifier (Written.newFields bits k name salt verifier filling)) ⌝ }
 {
-    let none = [0u8; 16];
-    let hash = filled_hash(verifier, filling);
+    let fields = sealed(key, plain(verifier, filling));
     let mut b = [0u8; 72];
     octets::put_le32(&mut b, 0, 16);
     octets::copy(&salt, 0, 16, &mut b, 4);
-    blocks::encrypt(key, &verifier, none, 16, &mut b, 20);
+    octets::copy(&fields, 0, 16, &mut b, 20);
     octets::put_le32(&mut b, 36, 20);
-    blocks::encrypt(key, &hash, none, 32, &mut b, 40);
+    octets::copy(&fields, 16, 32, &mut b, 40);
     b
 }

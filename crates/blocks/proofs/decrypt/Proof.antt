@@ -3,7 +3,6 @@ use mathlib.Core.Path.{_≡_, refl}
 use borrow.Author.Needs.{needs}
 use lib.ListN.{length}
 use Rattle.fips197.specs.Tables.{invSbox}
-use Rattle.blocks.specs.Blocks.{decrypting}
 use Rattle.blocks.proofs.decrypt.Statement.{statement}
 use Rattle.blocks.proofs.decrypt.Tie as tie
 
@@ -25,7 +24,6 @@ decrypt-with-requires c κs =
     ((p .0 .0, p .0 .1, long, search needs), ((m .mixed .ensures, refl, i .inverse .ensures), p .1))
 
 returns : tie.Need-returns
-unfolding decrypting
 returns c = c .before .before .decrypt-with .ensures
 
 pub decrypt-spec : {M : Type 1} → statement M

@@ -2,7 +2,6 @@
 use mathlib.Core.Path.{refl}
 use borrow.Author.Needs.{needs}
 use Rattle.fips197.specs.Tables.{sbox}
-use Rattle.blocks.specs.Blocks.{encrypting}
 use Rattle.blocks.proofs.encrypt.Statement.{statement}
 use Rattle.blocks.proofs.encrypt.Tie as tie
 
@@ -18,7 +17,6 @@ encrypt-with-requires c κs =
     ((p .0 .0, p .0 .1, search needs, search needs), ((refl, f .forward .ensures), p .1))
 
 returns : tie.Need-returns
-unfolding encrypting
 returns c = c .before .before .encrypt-with .ensures
 
 pub encrypt-spec : {M : Type 1} → statement M

@@ -1,4 +1,4 @@
--- A block within the contents is copied; the last one takes what is left of them and the first of the filling.
+-- A block within the list is copied; the last one takes what is left of it and the first of the filling.
 use mathlib.Core.Path.{refl, _∙_}
 use Prim.Native.Nat.{_-_}
 use native.Mathlib.Omega.{arith}
@@ -12,7 +12,7 @@ use Rattle.blocks.proofs.filled_block.Tie as tie
 returns : tie.Need-returns
 returns c =
     let a = c .before .before .before .args in
-    c .block .ensures ∙ part-front 16 (a .at) (a .s .now) (a .filling .now) (omega arith)
+    c .sixteen .ensures ∙ part-front 16 (a .at) (a .s .now) (a .filling .now) (omega arith)
 
 returns-2 : tie.Need-returns-2
 returns-2 c =

@@ -7,14 +7,14 @@ use Rattle.capi.proofs.ropeshadow_seal.Statement.{statement}
 use Rattle.capi.proofs.ropeshadow_seal.Tie as tie
 
 word-requires : tie.Need-word-requires
-word-requires c κs = seal-held _ _ _ _ _ _ _ _ (c .before .before .seal .ensures)
+word-requires c κs = seal-held _ _ _ _ _ _ _ (c .before .before .seal .ensures)
 
 returns : tie.Need-returns
 unfolding Capi.chosen
 returns c =
     let s = c .before .before .before in
     let a = s .before .before .before .before .before .before .before .args in
-    seal-crossed _ _ _ _ _ _ (c .word .ensures) _ _ _ _ (a .extra) (s .before .before .sixteen .ensures) (s .seal .ensures)
+    seal-crossed _ _ _ _ _ (c .word .ensures) _ _ _ _ (a .extra) (s .before .before .sixteen .ensures) (s .seal .ensures)
 
 pub ropeshadow-seal-spec : {M : Type 1} → statement M
 ropeshadow-seal-spec =

@@ -1,86 +1,101 @@
--- Each way out is a law of `unlocked`: EncryptionInfo refused, a long password, a wrong one, and the key.
-use mathlib.Core.Path.{_≡_, sym, ap, _∙_}
-use mathlib.Core.List.{List}
-use Prim.Native.Nat.{ℕ, _≤_}
+-- Each way out is a law of `unlocked`: refused before anything is hashed, a wrong password, and the key.
+use mathlib.Core.Path.{_≡_, sym, ap, ap₂, subst⁻¹, _∙_}
+use Prim.Native.Nat.{_≤_, _<_}
 use native.Mathlib.Omega.{arith}
 use borrow.Author.Needs.{needs}
-use lib.ListN.{length, take}
-use lib.Seq.{length-take-le}
-use Rattle.answers.specs.Rules.{firstOf}
+use Rattle.answers.specs.Rules.{firstOf, after}
+use Rattle.answers.proofs.Laws.{after-zero}
 use Rattle.aes.specs.Aes.{expanded}
 use Rattle.aes.specs.declared.Expanded.{Expanded}
-use Rattle.descriptor.specs.Info.{infoRules, described}
+use Rattle.blocks.proofs.Aes.{expanded-rounds}
+use Rattle.descriptor.specs.Info.{described}
 use Rattle.descriptor.specs.declared.Descriptor.{Descriptor}
 use Rattle.descriptor.specs.declared.Parsed.{Parsed}
 use Rattle.descriptor.proofs.Laws.{Admitted, parsed-answer, parsed-fields, well-formed}
-use Rattle.password.specs.Key as Key
+use Rattle.password.specs.Lock.{lockOf}
+use Rattle.password.specs.Verifier.{verifierOpening, matches}
 use Rattle.password.specs.Verdict as Verdict
-use Rattle.password.proofs.Laws.{key-short, key-fits, by-info, by-length, by-verifier, done}
+use Rattle.password.proofs.Laws.{key-short, key-fits, Matched, text-short, early-in-turn, by-early, by-verifier, done}
 use Rattle.password.proofs.unlock.Statement.{statement}
 use Rattle.password.proofs.unlock.Tie as tie
 
--- the parse's answer, and its fields where that is 0
-says : (c : tie.After-parse) → c .parse .result .answer ≡ firstOf (infoRules (c .before .before .before .args .info .now))
-says c = ap (λ (p : Parsed). p .answer) (c .parse .ensures) ∙ parsed-answer _
+-- what is answered before anything is hashed
+early : (c : tie.After-then) → let a = c .before .before .before .before .before .args in
+    c .then .result ≡ firstOf (Verdict.earlyRules (lockOf (a .info .now) (a .password .now)))
+early c =
+    let p = c .before .before in
+    let a = p .before .before .before .args in
+    c .then .ensures ∙ ap₂ after (ap (λ (x : Parsed). x .answer) (p .parse .ensures) ∙ parsed-answer _) (c .before .text-answer .ensures)
+    ∙ sym (early-in-turn (lockOf (a .info .now) (a .password .now)))
 
-admitted : (c : tie.Else1) → Admitted (c .before .before .before .before .args .info .now)
-admitted c = sym (says (c .before)) ∙ c .if1 .left
+passed : (c : tie.Else1) → let a = c .before .before .before .before .before .before .args in
+    firstOf (Verdict.earlyRules (lockOf (a .info .now) (a .password .now))) ≡ 0
+passed c = sym (early (c .before)) ∙ c .if1 .left
 
-fields : (c : tie.Else1) → c .before .parse .result .fields ≡ described (c .before .before .before .before .args .info .now)
-fields c = ap (λ (p : Parsed). p .fields) (c .before .parse .ensures) ∙ parsed-fields _ (admitted c)
+both : (c : tie.Else1) → let a = c .before .before .before .before .before .before .args in
+    Admitted (a .info .now) × (firstOf (Verdict.textRules (a .password .now)) ≡ 0)
+both c =
+    let a = c .before .before .before .before .before .before .args in
+    after-zero _ _ (sym (early-in-turn (lockOf (a .info .now) (a .password .now))) ∙ passed c)
 
--- the key is no longer than what it is the first part of
-short : (c : tie.After-material) → c .before .before .before .before .before .parse .result .fields .key .0 ≤ length (c .material .result)
-short c =
-    let e = c .before .before .before .before in
-    let n : length (c .material .result) ≡ 40 = search needs in
-    rw (fields e) (omega (arith, key-short (described _) (e .before .before .before .before .args .password .now) (well-formed _ (admitted e))))
+admitted : (c : tie.Else1) → Admitted (c .before .before .before .before .before .before .args .info .now)
+admitted c = both c .0
+
+fields : (c : tie.Else1) → c .before .before .before .parse .result .fields ≡ described (c .before .before .before .before .before .before .args .info .now)
+fields c = ap (λ (p : Parsed). p .fields) (c .before .before .before .parse .ensures) ∙ parsed-fields _ (admitted c)
 
 returns : tie.Need-returns
 returns c =
-    c .refused .ensures ∙ ap Verdict.refusedKey (says (c .before .before))
-    ∙ sym (by-info _ _ (λ z. c .before .if1 .taken (says (c .before .before) ∙ z)))
+    let t = c .before in
+    c .refused .ensures ∙ ap Verdict.refusedUnlock (early (t .before)) ∙ sym (by-early _ (λ z. t .if1 .taken (early (t .before) ∙ z)))
 
-returns-2 : tie.Need-returns-2
-returns-2 c = c .refused2 .ensures ∙ sym (by-length _ _ (admitted (c .before .before)) (c .before .if2 .taken))
-
-slice-aggregate-expand : tie.Need-slice-aggregate-expand
-slice-aggregate-expand c = sym (length-take-le _ (c .before .material .result) (short (c .before)))
+expanded-key-requires : tie.Need-expanded-key-requires
+expanded-key-requires c κs =
+    let e = c .before .before .before in
+    let a = e .before .before .before .before .before .before .args in
+    (rw (fields e) (omega (arith, key-short (described (a .info .now)) (a .password .now) (well-formed _ (admitted e)))), text-short _ .0 (both e .1))
 
 -- the expanded key is that of the descriptor and the password
-key : (c : tie.After-expand) → let s = c .before .before .before .before .before .before .before .before .before .before in
-    c .expand .result ≡ expanded (Verdict.keyOf (described (s .args .info .now)) (s .args .password .now))
-unfolding Verdict.keyOf Key.keyBytes
+key : (c : tie.After-expanded-key) → let a = c .before .before .before .before .before .before .before .before .before .before .args in
+    c .expanded-key .result ≡ expanded (Verdict.keyOf (described (a .info .now)) (a .password .now))
+unfolding Verdict.keyOf
 key c =
-    let e = c .before .before .before .before .before .before in
-    let p = e .before .before .before .before .args .password .now in
-    c .expand .ensures
-    ∙ ap (λ (m : List ℕ). expanded (take (e .before .parse .result .fields .key .0) m)) (c .before .before .material .ensures)
-    ∙ ap (λ (d : Descriptor). expanded (Verdict.keyOf d p)) (fields e)
+    let e = c .before .before .before .before in
+    c .expanded-key .ensures ∙ ap (λ (d : Descriptor). expanded (Verdict.keyOf d (e .before .before .before .before .before .before .args .password .now))) (fields e)
+
+matches-requires : tie.Need-matches-requires
+matches-requires c κs =
+    let k = c .before .before in
+    let e = k .before .before .before .before in
+    let a = e .before .before .before .before .before .before .args in
+    let d = described (a .info .now) in
+    subst⁻¹ (λ (x : Expanded). (0 < x .rounds) × (x .rounds ≤ 14)) (key k) (expanded-rounds (Verdict.keyOf d (a .password .now)) (key-fits d (a .password .now) (well-formed _ (admitted e))))
 
 -- what the check says of it
-checked : (c : tie.After-matches) → let s = c .before .before .before .before .before .before .before .before .before .before .before .before .before in
-    let d = described (s .args .info .now) in
-    c .matches .result ≡ Verdict.matches (Verdict.keyOf d (s .args .password .now)) (d .verifier) (d .hash)
+checked : (c : tie.After-matches) → let a = c .before .before .before .before .before .before .before .before .before .before .before .before .before .args in
+    c .matches .result ≡ Matched (described (a .info .now)) (a .password .now)
 checked c =
-    let e = c .before .before .before .before .before .before .before .before .before in
-    let i = e .before .before .before .before .args .info .now in
-    let p = e .before .before .before .before .args .password .now in
-    let k = Verdict.keyOf (described i) p in
-    c .matches .ensures k (key-fits (described i) p (well-formed i (admitted e))) (key (c .before .before .before))
-    ∙ ap (λ (d : Descriptor). Verdict.matches k (d .verifier) (d .hash)) (fields e)
+    let k = c .before .before .before in
+    let e = k .before .before .before .before in
+    let a = e .before .before .before .before .before .before .args in
+    let d = described (a .info .now) in
+    let k′ = Verdict.keyOf d (a .password .now) in
+    c .matches .ensures k′ (key-fits d (a .password .now) (well-formed _ (admitted e))) (key k)
+    ∙ ap (λ (x : Descriptor). matches (verifierOpening k′) (x .«encrypted_verifier») (x .«encrypted_verifier_hash»)) (fields e)
+
+returns-2 : tie.Need-returns-2
+returns-2 c =
+    let m = c .before in
+    let k = m .before .before .before in
+    let e = k .before .before .before .before in
+    ap₂ (λ (d : Descriptor) (x : Expanded). record { answer = 0; fields = d; key = x }) (fields e) (key k)
+    ∙ sym (done _ (passed e) (sym (checked m) ∙ c .if2 .taken))
 
 returns-3 : tie.Need-returns-3
 returns-3 c =
-    let e = c .before .before .before .before .before .before .before .before .before .before in
-    ap (λ (x : Expanded). record { answer = 0; key = x }) (key (c .before .before .before .before))
-    ∙ sym (done _ _ (admitted e) (c .before .before .before .before .before .before .before .before .before .if2 .left) (sym (checked (c .before)) ∙ c .if3 .taken))
-
-returns-4 : tie.Need-returns-4
-returns-4 c =
-    let e = c .before .before .before .before .before .before .before .before .before .before .before in
-    c .refused3 .ensures
-    ∙ sym (by-verifier _ _ (admitted e) (c .before .before .before .before .before .before .before .before .before .before .if2 .left) (sym (checked (c .before .before)) ∙ c .before .if3 .left))
+    let f = c .before in
+    let e = f .before .before .before .before .before .before .before .before in
+    c .refused2 .ensures ∙ sym (by-verifier _ (passed e) (sym (checked (f .before)) ∙ f .if2 .left))
 
 pub unlock-spec : {M : Type 1} → statement M
 unlock-spec =
@@ -88,14 +103,11 @@ unlock-spec =
     (tie.spec
     (λ c κs. search needs)
     (λ c κs. search needs)
-    returns
     (λ c κs. search needs)
+    (λ c κs. search needs)
+    returns
+    expanded-key-requires
+    matches-requires
     returns-2
     (λ c κs. search needs)
-    short
-    slice-aggregate-expand
-    (λ c κs. search needs)
-    (λ c κs. search needs)
-    returns-3
-    (λ c κs. search needs)
-    returns-4)
+    returns-3)

@@ -7,7 +7,7 @@ use Rattle.password.proofs.verdict.Statement.{statement}
 use Rattle.password.proofs.verdict.Tie as tie
 
 returns : tie.Need-returns
-returns c = ap (λ (u : Unlocked). u .answer) (c .unlock .ensures) ∙ unlocked-answer _ _
+returns c = ap (λ (u : Unlocked). u .answer) (c .unlock .ensures) ∙ unlocked-answer _
 
 pub verdict-spec : {M : Type 1} → statement M
 verdict-spec = tie.close (tie.spec (λ c κs. search needs) returns)

@@ -1,36 +1,38 @@
--- Each `first` puts one rule before the rest; a name that is too long is answered before anything is counted.
+-- What is laid out is judged first; only then the text, and the room for it.
+use mathlib.Core.Path.{sym, ap₂, _∙_}
+use native.Mathlib.Omega.{arith}
 use borrow.Author.Needs.{needs}
-use borrow.Author.Tests.{lt-ltb, le-ltb}
-use Rattle.answers.specs.Rules.{firstOf}
-use Rattle.sheet.specs.Sheet.{lacks}
-use Rattle.writer.specs.Written.{nameLimit, infoSize, writeRules}
+use Rattle.answers.specs.Rules.{after}
+use Rattle.writer.specs.Written.{infoSize}
+use Rattle.writer.proofs.Laws.{to-fields, by-fields, after-fields}
 use Rattle.writer.proofs.answer.Statement.{statement}
 use Rattle.writer.proofs.answer.Tie as tie
 
 returns : tie.Need-returns
-unfolding writeRules nameLimit firstOf
-returns c = simp (lt-ltb _ _ (c .if1 .taken))
+returns c =
+    let e = c .before .fields-answer .ensures in
+    e ∙ sym (by-fields _ _ _ _ (λ z. c .if1 .taken (e ∙ z)))
+
+add-room-answer : tie.Need-add-room-answer
+add-room-answer c =
+    let f = c .before in
+    omega (arith, to-fields _ _ (sym (f .before .fields-answer .ensures) ∙ f .if1 .left) .0)
 
 returns-2 : tie.Need-returns-2
-unfolding writeRules nameLimit infoSize lacks firstOf
-returns-2 c = simp (
-  c .first4 .ensures,
-  c .before .first3 .ensures,
-  c .before .before .first2 .ensures,
-  c .before .before .before .first .ensures,
-  c .before .before .before .before .alg-id .ensures,
-  le-ltb _ _ (c .before .before .before .before .before .if1 .left),
-)
+unfolding infoSize
+returns-2 c =
+    let f = c .before .before .before in
+    c .then .ensures ∙ ap₂ after (c .before .before .text-answer .ensures) (c .before .room-answer .ensures)
+    ∙ sym (after-fields _ _ _ _ (sym (f .before .fields-answer .ensures) ∙ f .if1 .left))
 
 pub answer-spec : {M : Type 1} → statement M
 answer-spec =
     tie.close
     (tie.spec
+    (λ c κs. search needs)
     returns
     (λ c κs. search needs)
-    (λ c. search needs)
-    (λ c κs. search needs)
-    (λ c κs. search needs)
+    add-room-answer
     (λ c κs. search needs)
     (λ c κs. search needs)
     returns-2)

@@ -1,13 +1,16 @@
 -- The salt, then one unit more a turn.
-use mathlib.Core.Path.{_≡_, _∙_}
+use mathlib.Core.Path.{_≡_, refl, _∙_}
 use mathlib.Core.List.{[]}
 use Prim.Native.Nat.{_*_, _-_, _≤_}
 use native.Mathlib.Omega.{arith}
 use borrow.Author.Needs.{needs}
 use lib.ListN.{length, take, replicate}
 use lib.Seq.{paste, paste-zero}
+use Rattle.octets.specs.Octets.{leBytes}
+use Rattle.octets.proofs.Numbers.{length-leBytes}
+use Rattle.octets.proofs.Each.{each-next}
 use Rattle.password.specs.Key as Key
-use Rattle.password.proofs.Message.{units-next, message-law}
+use Rattle.password.proofs.Message.{message-law}
 use Rattle.password.proofs.key.message.Statement.{statement}
 use Rattle.password.proofs.key.message.Tie as tie
 
@@ -30,7 +33,7 @@ loop-again c =
       omega arith,
       (
         c .before .put-le16 .kept .0 ∙ l .loop .inv .1 .0,
-        units-next (z .last .1 .1 .1 .0) (l .loop .b) (c .before .put-le16 .last .0) p (l .loop .i) (omega arith) (omega (arith, z .kept .1 .1 .1 .0)) (l .loop .inv .1 .1) (c .before .put-le16 .ensures),
+        each-next (leBytes 2) (length-leBytes 2) (z .last .1 .1 .1 .0) p 16 (l .loop .i) _ (omega arith) (omega (arith, z .kept .1 .1 .1 .0)) refl (l .loop .inv .1 .1) (c .before .put-le16 .ensures),
       ),
     )
 

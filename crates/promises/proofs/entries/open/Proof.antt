@@ -7,7 +7,7 @@ use Rattle.promises.proofs.entries.open.Statement.{statement}
 use Rattle.promises.proofs.entries.open.Tie as tie
 
 returns : tie.Need-returns
-returns c = subst⁻¹ (Opening _ _ _ _) (c .before .before .«open» .ensures) (opening _ _ _ _)
+returns c = subst⁻¹ (Opening _ _ _) (c .before .before .«open» .ensures) (opening _ _ _)
 
 pub open-spec : {M : Type 1} → statement M
 open-spec = tie.close (tie.spec (λ c κs. search needs) (λ c. search needs) returns)

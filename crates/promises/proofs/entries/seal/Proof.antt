@@ -13,7 +13,7 @@ sixteen c = search needs
 returns : tie.Need-returns
 returns c =
     let s = c .before .before in
-    subst⁻¹ (Sealing _ _ _ _ _ _) (s .seal .ensures) (sealing _ _ _ _ _ _ (sixteen (s .before .before .before .before .before .before)))
+    subst⁻¹ (Sealing _ _ _ _ _) (s .seal .ensures) (sealing _ _ _ _ _ (sixteen (s .before .before .before .before .before .before)))
 
 pub seal-spec : {M : Type 1} → statement M
 seal-spec = tie.close (tie.spec (λ c κs. search needs) (λ c. search needs) returns)

@@ -7,7 +7,7 @@ use Rattle.promises.proofs.entries.verdict.Statement.{statement}
 use Rattle.promises.proofs.entries.verdict.Tie as tie
 
 returns : tie.Need-returns
-returns c = subst⁻¹ (Judging _ _) (c .verdict .ensures) (judging _ _)
+returns c = subst⁻¹ (Judging _) (c .verdict .ensures) (judging _)
 
 pub verdict-spec : {M : Type 1} → statement M
 verdict-spec = tie.close (tie.spec (λ c κs. search needs) returns)

@@ -6,7 +6,7 @@ use Rattle.promises.proofs.from_c.open.Statement.{statement}
 use Rattle.promises.proofs.from_c.open.Tie as tie
 
 returns : tie.Need-returns
-returns c = carried (Opening _ _ _ _) (c .before .before .ropeshadow-open .ensures) (open-out _ _ _ _)
+returns c = carried (Opening _ _ _) (c .before .before .ropeshadow-open .ensures) (open-out _ _ _)
 
 pub open-spec : {M : Type 1} → statement M
 open-spec = tie.close (tie.spec (λ c κs. search needs) (λ c. search needs) returns)

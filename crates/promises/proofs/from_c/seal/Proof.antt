@@ -6,7 +6,7 @@ use Rattle.promises.proofs.from_c.seal.Statement.{statement}
 use Rattle.promises.proofs.from_c.seal.Tie as tie
 
 returns : tie.Need-returns
-returns c = carried (Sealing _ _ _ _ _ _) (c .before .before .ropeshadow-seal .ensures) (seal-out _ _ _ _ _ _ _)
+returns c = carried (Sealing _ _ _ _ _) (c .before .before .ropeshadow-seal .ensures) (seal-out _ _ _ _ _ _)
 
 pub seal-spec : {M : Type 1} → statement M
 seal-spec = tie.close (tie.spec (λ c κs. search needs) (λ c. search needs) returns)

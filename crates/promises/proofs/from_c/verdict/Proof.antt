@@ -8,7 +8,7 @@ use Rattle.promises.proofs.from_c.verdict.Statement.{statement}
 use Rattle.promises.proofs.from_c.verdict.Tie as tie
 
 returns : tie.Need-returns
-returns c = subst⁻¹ (VerdictOut _ _) (ap told (c .ropeshadow-verdict .ensures)) (verdict-out _ _)
+returns c = subst⁻¹ (VerdictOut _) (ap told (c .ropeshadow-verdict .ensures)) (verdict-out _)
 
 pub verdict-spec : {M : Type 1} → statement M
 verdict-spec = tie.close (tie.spec (λ c κs. search needs) returns)

@@ -17,12 +17,12 @@ byte : (c : tie.Start) (i : ℕ) → Fits w8 (getD (c .args .filling) i 0)
 byte c i = search needs
 
 returns : tie.Need-returns
-returns c = resealed-refused _ _ _ _ _ _ _ _ (c .before .before .before .«open» .ensures) _ (c .if1 .taken)
+returns c = resealed-refused _ _ _ _ _ _ _ (c .before .before .before .«open» .ensures) _ (c .if1 .taken)
 
 slice-reshare-prefix-seal : tie.Need-slice-reshare-prefix-seal
 slice-reshare-prefix-seal c =
     let m = c .before .before .before in
-    opened-within _ _ _ (m .before .before .before .before .before .before .before .args .filling)
+    opened-within _ _ (m .before .before .before .before .before .before .before .args .filling)
     (m .before .before .before .before .before .before .before .args .extra) _ _ _ (m .«open» .ensures) (c .if1 .left)
 
 slice-aggregate-seal : tie.Need-slice-aggregate-seal
@@ -35,7 +35,7 @@ returns-2 c =
     let m = e .before .before .before in
     let known = m .before .before .before .before in
     let s = known .before .before .before in
-    resealed _ _ _ _ _ _ _ _ (m .«open» .ensures) (e .if1 .left) (record { at = λ i. known .shared-slice-known3 .given i .fits })
+    resealed _ _ _ _ _ _ _ (m .«open» .ensures) (e .if1 .left) (record { at = λ i. known .shared-slice-known3 .given i .fits })
     (sixteen s) (record { at = λ i. byte s i .fits }) _ _ _ (o .seal .ensures)
 
 pub opened-and-sealed-spec : {M : Type 1} → statement M

@@ -19,12 +19,12 @@ byte c i = search needs
 returns : tie.Need-returns
 returns c =
     let m = c .before .before .before in
-    returned-refused _ _ _ _ _ _ (sixteen (m .before .before .before .before .before .before .before)) _ _ (m .seal .ensures) _ (c .if1 .taken)
+    returned-refused _ _ _ _ _ (sixteen (m .before .before .before .before .before .before .before)) _ _ (m .seal .ensures) _ (c .if1 .taken)
 
 slice-reshare-prefix-open : tie.Need-slice-reshare-prefix-open
 slice-reshare-prefix-open c =
     let m = c .before .before .before in
-    sealed-within _ _ _ _ _ _ (sixteen (m .before .before .before .before .before .before .before)) _ _ (m .seal .ensures) (c .if1 .left)
+    sealed-within _ _ _ _ _ (sixteen (m .before .before .before .before .before .before .before)) _ _ (m .seal .ensures) (c .if1 .left)
 
 slice-aggregate-open : tie.Need-slice-aggregate-open
 slice-aggregate-open c = sym (length-take-le _ _ (slice-reshare-prefix-open (c .before)))
@@ -36,7 +36,7 @@ returns-2 c =
     let m = e .before .before .before in
     let known = m .before .before .before .before in
     let s = known .before .before .before in
-    returned _ _ _ _ _ _ (sixteen s) _ _ (m .seal .ensures) (e .if1 .left) _
+    returned _ _ _ _ _ (sixteen s) _ _ (m .seal .ensures) (e .if1 .left) _
     (record { at = λ i. known .shared-slice-known3 .given i .fits }) (record { at = λ i. byte s i .fits }) _ _ (o .«open» .ensures)
 
 pub sealed-and-opened-spec : {M : Type 1} → statement M

@@ -1,7 +1,7 @@
 -- The schedule and the rounds of the six words' block, which is that of their hash.
 use native.Mathlib.Omega.{arith}
 use borrow.Author.Needs.{needs}
-use Rattle.sha1.proofs.Steps.{words-all, rounds-all, compressed, first-word, second-word, third-word, last-word}
+use Rattle.sha1_rounds.proofs.Steps.{words-all, rounds-all, compressed, first-word, second-word, third-word, last-word}
 use Rattle.sha1.proofs.Short.{six-words}
 use Rattle.sha1.proofs.single.six.Statement.{statement}
 use Rattle.sha1.proofs.single.six.Tie as tie

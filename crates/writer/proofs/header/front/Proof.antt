@@ -20,7 +20,7 @@ returns c =
     let rest = first .before .before in
     let a = rest .before .before .args in
     λ k name salt v filling l.
-    front-laid (a .bits .0) (a .name) _ k name salt v filling _ _ _ _ l (rest .before .alg-id .ensures) (rest .numbers .ensures) (first .put-le16 .ensures)
+    front-laid (a .bits .0) (a .name) _ k name salt v filling _ _ _ _ l (rest .before .alg-id-of .ensures) (rest .numbers .ensures) (first .put-le16 .ensures)
     (second .put-le162 .ensures) (c .before .copy .ensures)
 
 pub front-spec : {M : Type 1} → statement M
