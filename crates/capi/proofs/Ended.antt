@@ -9,7 +9,8 @@ use Rattle.answers.specs.declared.Reply.{Reply}
 use Rattle.password.specs.Lock.{Lock}
 use Rattle.sheet.specs.Sheet as Sheet
 use Rattle.writer.specs.Written as Written
-use Rattle.capi.specs.Capi.{replyWord, sixteen, chosen, Outcome, outcome, outcomeBy, sheetOutcome, openOutcome, sealOutcome}
+use Rattle.crossing.specs.Crossing.{replyWord, sixteen, chosen}
+use Rattle.capi.specs.Capi.{Outcome, outcome, outcomeBy, sheetOutcome, openOutcome, sealOutcome}
 
 -- the two arms of a function that writes a value on answer 0 only
 pub answered : (answer w : ℕ) (value old out : List ℕ) → w ≡ replyWord answer 0

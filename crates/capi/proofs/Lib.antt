@@ -1,6 +1,4 @@
--- `Bounds`: every number is small enough to cross. `Laid`: parts laid one after the other are what the definitions say. `Ended`: how a
--- call ends. `Lossless`: what crosses can be read back.
-mod Bounds
-mod Laid
+-- `Sizes`: every size is small enough to cross. `Ended`: how a call ends. `Told`: what C reads is what the call gave.
+mod Sizes
 mod Ended
-pub mod Lossless
+pub mod Told

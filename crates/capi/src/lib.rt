@@ -15,15 +15,7 @@ ghost use mathlib.Core.Path.{_≡_};
 ghost use Rattle.password.specs.Lock.{lockOf};
 ghost use Rattle.capi.specs.Capi as Capi;
 ghost use Rattle.capi.specs.Capi.{outcome};
-
-mod fields;
-mod numbers;
-
 use aes::Reply;
-use numbers::bit_count;
-use numbers::sixteen;
-use numbers::twelve;
-use numbers::word;
 
 // SHA-1 of a message.
 #[no_mangle]
@@ -35,7 +27,7 @@ pub extern "C" fn ropeshadow_sha1(message: &[u8], out: &mut [u8; 20]) -> u64
         let bytes = h.bytes;
         *out = bytes;
     }
-    word(h.answer, 0)
+    crossing::word(h.answer, 0)
 }
 
 // The block of a reply, written where its answer is 0.
@@ -46,7 +38,7 @@ fn written(r: Reply, out: &mut [u8; 16]) -> u64
         let block = r.block;
         *out = block;
     }
-    word(r.answer, 0)
+    crossing::word(r.answer, 0)
 }
 
 // A block encrypted under a key of 16, 24 or 32 bytes.
@@ -54,7 +46,7 @@ fn written(r: Reply, out: &mut [u8; 16]) -> u64
 pub extern "C" fn ropeshadow_aes_encrypt(key: &[u8], low: u64, high: u64, out: &mut [u8; 16]) -> u64
     ensures { λ r. ⌜ outcome r (now (out .exit)) ≡ Capi.encryptOutcome (now (key .entry)) low high (now (out .entry)) ⌝ }
 {
-    written(aes::encrypt(key, sixteen(low, high)), out)
+    written(aes::encrypt(key, crossing::sixteen(low, high)), out)
 }
 
 // A block decrypted under a key of 16, 24 or 32 bytes.
@@ -62,7 +54,7 @@ pub extern "C" fn ropeshadow_aes_encrypt(key: &[u8], low: u64, high: u64, out: &
 pub extern "C" fn ropeshadow_aes_decrypt(key: &[u8], low: u64, high: u64, out: &mut [u8; 16]) -> u64
     ensures { λ r. ⌜ outcome r (now (out .exit)) ≡ Capi.decryptOutcome (now (key .entry)) low high (now (out .entry)) ⌝ }
 {
-    written(aes::decrypt(key, sixteen(low, high)), out)
+    written(aes::decrypt(key, crossing::sixteen(low, high)), out)
 }
 
 // The descriptor of EncryptionInfo.
@@ -73,9 +65,9 @@ pub extern "C" fn ropeshadow_parse(info: &[u8], out: &mut [u8; 84]) -> u64
     let p = descriptor::parse(info);
     if p.answer == answers::DONE {
         let d = p.fields;
-        *out = fields::bytes(d);
+        *out = crossing::descriptor_bytes(d);
     }
-    word(p.answer, 0)
+    crossing::word(p.answer, 0)
 }
 
 // The verdict on a password.
@@ -83,7 +75,7 @@ pub extern "C" fn ropeshadow_parse(info: &[u8], out: &mut [u8; 84]) -> u64
 pub extern "C" fn ropeshadow_verdict(info: &[u8], password: &[u16]) -> u64
     ensures { λ r. ⌜ r ≡ Capi.verdictWord (lockOf (now (info .entry)) (now (password .entry))) ⌝ }
 {
-    word(password::verdict(info, password), 0)
+    crossing::word(password::verdict(info, password), 0)
 }
 
 // A package stream opened into out.
@@ -97,7 +89,7 @@ pub extern "C" fn ropeshadow_open(
     ensures { λ r. ⌜ outcome r (now (out .exit)) ≡ Capi.openOutcome (lockOf (now (info .entry)) (now (password .entry))) (now (stream .entry)) (now (out .entry)) ⌝ }
 {
     let r = sheet::open(info, password, stream, out);
-    word(r.answer, r.size)
+    crossing::word(r.answer, r.size)
 }
 
 // A package sealed into out, its last block filled with the first of sixteen bytes; `extra` other than 0 asks for an extra block.
@@ -113,9 +105,9 @@ pub extern "C" fn ropeshadow_seal(
 ) -> u64
     ensures { λ r. ⌜ outcome r (now (out .exit)) ≡ Capi.sealOutcome (lockOf (now (info .entry)) (now (password .entry))) (now («package» .entry)) low high extra (now (out .entry)) ⌝ }
 {
-    let filling = sixteen(low, high);
+    let filling = crossing::sixteen(low, high);
     let r = sheet::seal(info, password, package, filling, extra != 0, out);
-    word(r.answer, r.size)
+    crossing::word(r.answer, r.size)
 }
 
 // A new EncryptionInfo written into out, for a key of so many bits. Of the filling the first twelve bytes count.
@@ -134,11 +126,11 @@ pub extern "C" fn ropeshadow_write_info(
 ) -> u64
     ensures { λ r. ⌜ outcome r (now (out .exit)) ≡ Capi.writeOutcome bits (now (password .entry)) (now (name .entry)) «salt_low» «salt_high» «verifier_low» «verifier_high» «filling_low» «filling_high» (now (out .entry)) ⌝ }
 {
-    let salt = sixteen(salt_low, salt_high);
-    let verifier = sixteen(verifier_low, verifier_high);
-    let filling = twelve(filling_low, filling_high);
+    let salt = crossing::sixteen(salt_low, salt_high);
+    let verifier = crossing::sixteen(verifier_low, verifier_high);
+    let filling = crossing::twelve(filling_low, filling_high);
     let r = writer::write_info(
-        bit_count(bits),
+        crossing::bit_count(bits),
         password,
         name,
         salt,
@@ -146,5 +138,5 @@ pub extern "C" fn ropeshadow_write_info(
         filling,
         out,
     );
-    word(r.answer, r.size)
+    crossing::word(r.answer, r.size)
 }

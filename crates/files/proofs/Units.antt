@@ -9,7 +9,7 @@ use lib.Seq.{take-suc, take-suc-set}
 use Rattle.octets.specs.Octets.{Bytes, le, leBytes, leAt}
 use Rattle.octets.proofs.Below.{tail-below}
 use Rattle.octets.proofs.Numbers.{leAt-past}
-use Rattle.password.specs.Key.{unitBytes}
+use Rattle.derivation.specs.Key.{unitBytes}
 use Rattle.files.specs.Files.{units}
 
 pub length-units : (s : List ℕ) → length (units s) ≡ length s / 2

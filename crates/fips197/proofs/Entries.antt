@@ -1,6 +1,6 @@
 -- The rules of the written tables, at every entry: one test computed over a whole table, and a lemma that carries it to any
 -- entry (FIPS 197 5.1.1, 5.2, 5.3.2). Assumes nothing.
-use mathlib.Core.Path.{_≡_, refl, sym, ap, _∙_}
+use mathlib.Core.Path.{_≡_, refl, ap, _∙_}
 use mathlib.Core.Logic.{⊎-elim}
 use mathlib.Core.Bool.{Bool, true, false, _&&_, _||_}
 use mathlib.Core.List.{List, [], _∷_}

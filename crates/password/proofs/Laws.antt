@@ -7,44 +7,26 @@ use Prim.Native.Nat.{ℕ, _≤_}
 use native.Mathlib.Omega.{arith}
 use borrow.Author.Tests.{ltb-false, le-ltb, ne-eqb, eqb-true, eqb-false}
 use lib.Dec.{T, eqb}
-use lib.ListN.{length, length-append}
-use lib.Seq.{length-take-le}
+use lib.ListN.{length}
 use Rattle.octets.specs.Octets.{Bytes}
-use Rattle.octets.proofs.Below.{append-below, take-below}
 use Rattle.answers.specs.Rules.{firstOf, after, numbered, numbers}
 use Rattle.answers.proofs.Laws.{either, in-turn, after-none, after-some, after-zero, numbers-both, both-zero, both-numbered, none-broken}
-use Rattle.sha1.proofs.Laws.{length-sha1, sha1-bytes}
 use Rattle.aes.specs.Aes.{keyLength, expanded}
 use Rattle.aes.proofs.Keys.{key-lengths}
 use Rattle.descriptor.specs.Info.{infoRules, described, parsed}
 use Rattle.descriptor.specs.declared.Descriptor.{Descriptor}
 use Rattle.descriptor.specs.declared.Parsed.{Parsed}
 use Rattle.descriptor.proofs.Laws.{Admitted, WellFormed, info-numbered, info-numbers, parsed-answer, parsed-fields}
+use Rattle.derivation.specs.Key.{keyBytes}
+use Rattle.derivation.proofs.Laws.{length-keyBytes, keyBytes-bytes}
 use Rattle.password.specs.Lock.{Lock, lockOf}
-use Rattle.password.specs.Key as Key
 use Rattle.password.specs.Verifier.{verifierOpening, matches}
 use Rattle.password.specs.Verdict as Verdict
 use Rattle.password.specs.declared.Unlocked.{Unlocked}
 
 -- ---- the key
 
-pub length-material : (salt p : List ℕ) → length (Key.material salt p) ≡ 40
-unfolding Key.material Key.derived
-length-material salt p = simp (length-append, length-sha1)
-
-pub material-bytes : (salt p : List ℕ) → Bytes (Key.material salt p)
-unfolding Key.material Key.derived
-material-bytes salt p = append-below _ _ (sha1-bytes _) (sha1-bytes _)
-
-pub keyBytes-bytes : (n : ℕ) (salt p : List ℕ) → Bytes (Key.keyBytes n salt p)
-unfolding Key.keyBytes
-keyBytes-bytes n salt p = take-below n (Key.material salt p) (material-bytes salt p)
-
-pub length-keyBytes : (n : ℕ) (salt p : List ℕ) → n ≤ 40 → length (Key.keyBytes n salt p) ≡ n
-unfolding Key.keyBytes
-length-keyBytes n salt p h = length-take-le n (Key.material salt p) (omega (arith, length-material salt p))
-
-pub keyOf-is : (d : Descriptor) (p : List ℕ) → Verdict.keyOf d p ≡ Key.keyBytes (d .«key_size» .0) (d .salt) p
+pub keyOf-is : (d : Descriptor) (p : List ℕ) → Verdict.keyOf d p ≡ keyBytes (d .«key_size» .0) (d .salt) p
 unfolding Verdict.keyOf
 keyOf-is d p = refl
 

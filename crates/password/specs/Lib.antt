@@ -1,4 +1,3 @@
 pub mod Lock
-pub mod Key
 pub mod Verifier
 pub mod Verdict

@@ -8,8 +8,8 @@ use Rattle.answers.specs.Rules.{Rule, rule, firstOf}
 use Rattle.aes.specs.Aes.{expanded}
 use Rattle.descriptor.specs.Info.{infoRules, described, zeroed}
 use Rattle.descriptor.specs.declared.Descriptor.{Descriptor}
+use Rattle.derivation.specs.Key.{keyBytes}
 use Rattle.password.specs.Lock.{Lock}
-use Rattle.password.specs.Key.{keyBytes}
 use Rattle.password.specs.Verifier.{verifierOpening, matches}
 use Rattle.password.specs.declared.Unlocked.{Unlocked}
 

@@ -1,5 +1,5 @@
-// From a password to the key of a locked document, and the verdict on the password (01, "From password to key"; 004 2.3.4.7 to
-// 2.3.4.9, 000 sections 4 to 6).
+// The verdict on a password, and what it unlocks: the descriptor and the key (01, rules 11 and 12; 004 2.3.4.8 and 2.3.4.9, 000
+// section 6).
 //
 //     let u = password::unlock(info, units);
 //     if u.answer == answers::DONE { .. u.key, u.fields.salt .. }
@@ -10,16 +10,10 @@ ghost use Rattle.answers.specs.Rules.{firstOf};
 ghost use Rattle.password.specs.Lock.{lockOf};
 ghost use Rattle.password.specs.Verdict as Verdict;
 
-mod key;
-mod turns;
 mod verifier;
 
 use aes::Expanded;
 use descriptor::Descriptor;
-pub use key::expanded_key;
-pub use key::material;
-pub use key::password_hash;
-pub use turns::block_hash;
 
 // An answer and, where it is 0, the descriptor and the expanded key: zeros and no rounds where it is not.
 pub struct Unlocked {
@@ -61,7 +55,7 @@ pub fn unlock(info: &[u8], password: &[u16]) -> Unlocked
     let fields = p.fields;
     let salt = fields.salt;
     let size = fields.key_size;
-    let key = expanded_key(size, salt, password);
+    let key = derivation::expanded_key(size, salt, password);
     let verifier = fields.encrypted_verifier;
     let hash = fields.encrypted_verifier_hash;
     if verifier::matches(key, verifier, hash) {

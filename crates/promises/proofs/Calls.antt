@@ -26,12 +26,12 @@ use Rattle.promises.specs.Words.{Parser, Judge, Opener, Sealer}
 use Rattle.promises.specs.Demand1.{Call, Demand1, openNumbers}
 use Rattle.promises.specs.Demand2.{Demand2}
 use Rattle.promises.specs.NewInfo.{Input, Typed}
-use Rattle.promises.specs.EveryCall.{Block, fileNumbers}
-use Rattle.promises.specs.Calls.{Hashing, Enciphering, Parsing, Judging, Opening, Sealing, Writing, FilesOpening}
 use Rattle.promises.proofs.Ended.{ended-call, by-rules}
 use Rattle.promises.proofs.Demand1.{demand-1, open-fits}
 use Rattle.promises.proofs.Demand2.{demand-2}
 use Rattle.promises.proofs.NewInfo.{writes, new-info}
+use Rattle.promises.specs.EveryCall.{Block, fileNumbers}
+use Rattle.promises.specs.Calls.{Hashing, Enciphering, Parsing, Judging, Opening, Sealing, Writing, FilesOpening}
 
 -- ---- the parts
 

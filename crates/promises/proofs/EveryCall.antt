@@ -12,12 +12,12 @@ use Rattle.sheet.specs.Sheet.{sealRules, sealed}
 use Rattle.sheet.proofs.Laws.{seal-numbers}
 use Rattle.writer.specs.Written.{writeRules, written}
 use Rattle.writer.proofs.Laws.{write-numbers}
-use Rattle.capi.proofs.Lossless.{verdict-told}
+use Rattle.capi.proofs.Told.{verdict-told}
 use Rattle.promises.specs.Demand1.{Concludes, OnOutput, verdictNumbers, sealNumbers}
 use Rattle.promises.specs.NewInfo.{writeNumbers}
-use Rattle.promises.specs.EveryCall.{EveryCall}
 use Rattle.promises.proofs.Ended.{ended-ends}
 use Rattle.promises.proofs.Demand1.{demand-1}
+use Rattle.promises.specs.EveryCall.{EveryCall}
 use Rattle.promises.proofs.Calls.{hashing, encrypting, decrypting, opening-files}
 use Rattle.promises.proofs.Outside.{hash-out, encrypt-out, decrypt-out, descriptor-out, open-out, seal-out, write-out}
 

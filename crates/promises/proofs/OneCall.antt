@@ -19,16 +19,18 @@ use Rattle.descriptor.specs.declared.Parsed.{Parsed}
 use Rattle.password.specs.Verdict.{judged, verdictRules}
 use Rattle.password.specs.Lock.{Lock, lockOf}
 use Rattle.sheet.specs.Sheet.{openRules, sealRules, packageOf, filledWith, sealingOf, opened, sealed}
+use Rattle.crossing.specs.Crossing.{told, sixteen, twelve, bitCount, chosen, descriptorBytes}
+use Rattle.crossing.proofs.Lossless.{length-sixteen, length-twelve}
 use Rattle.capi.specs.Capi as Capi
-use Rattle.capi.proofs.Lossless.{verdict-told, open-told, seal-told, write-told, length-sixteen, length-twelve}
+use Rattle.capi.proofs.Told.{verdict-told, open-told, seal-told, write-told}
 use Rattle.files.specs.Files.{File, units, rules, filesOpened}
 use Rattle.promises.specs.Words.{Answers}
 use Rattle.promises.specs.Demand1.{Concludes, infoNumbers, openNumbers, sealNumbers}
 use Rattle.promises.specs.NewInfo.{Input, Typed, rulesFor, infoFor, writeNumbers}
-use Rattle.promises.specs.EveryCall.{hashNumbers, blockNumbers, fileNumbers}
-use Rattle.promises.specs.Calls.{Hashing, Enciphering, Parsing, Judging, Opening, Sealing, Writing, FilesOpening, Value, HashOut, BlockOut, DescriptorOut, VerdictOut, input}
 use Rattle.promises.proofs.NewInfo.{writes}
 use Rattle.promises.proofs.Fixed.{one-answer, one-left}
+use Rattle.promises.specs.EveryCall.{hashNumbers, blockNumbers, fileNumbers}
+use Rattle.promises.specs.Calls.{Hashing, Enciphering, Parsing, Judging, Opening, Sealing, Writing, FilesOpening, Value, HashOut, BlockOut, DescriptorOut, VerdictOut, input}
 use Rattle.promises.proofs.Calls.{hashing, encrypting, decrypting, parsing, judging, opening, sealing, writing, opening-files}
 use Rattle.promises.proofs.Outside.{hash-out, encrypt-out, decrypt-out, descriptor-out}
 
@@ -110,11 +112,11 @@ one-files info password s out l k =
 -- ---- the same from C
 
 -- a number is known by the reply that it tells
-one-told : (w v : ℕ) → Capi.told w ≡ Capi.told v → w ≡ v
-unfolding Capi.told
+one-told : (w v : ℕ) → told w ≡ told v → w ≡ v
+unfolding told
 one-told w v e = omega (arith, ap (λ (r : Reply). r .answer) e, ap (λ (r : Reply). r .size) e)
 
-one-outcome : (w : ℕ) (now : List ℕ) (o : Capi.Outcome) → left (Capi.told w) now ≡ Capi.readBack o → Capi.outcome w now ≡ o
+one-outcome : (w : ℕ) (now : List ℕ) (o : Capi.Outcome) → left (told w) now ≡ Capi.readBack o → Capi.outcome w now ≡ o
 one-outcome w now o e =
     let n : w ≡ o .word = one-told w (o .word) (ap (λ (l : Left). l .reply) e) in
     λ i. Capi.outcome (n i) (ap (λ (l : Left). l .out) e i)
@@ -131,42 +133,42 @@ one-block cipher key block out x y k d =
     (one-of-two _ _ (k .value .ends .answer) (d .value .ends .answer) (λ z. d .accepts .1 (k .accepts .0 z)) (λ z. k .accepts .1 (d .accepts .0 z)))
 
 module _ (w : ℕ) (now : List ℕ) where
-  pub c-hashing : (message out : List ℕ) → HashOut message out (left (Capi.told w) now) → Capi.outcome w now ≡ Capi.hashOutcome message out
+  pub c-hashing : (message out : List ℕ) → HashOut message out (left (told w) now) → Capi.outcome w now ≡ Capi.hashOutcome message out
   c-hashing m out k =
       let d = hash-out m out in
       one-outcome w now _ (one-value hashNumbers (sha1 m) out _ _ (k .value) (d .value) (one-answer (hashRules m) _ _ (k .answers) (d .answers)))
 
   module _ (key : List ℕ) (low high : ℕ) (out : List ℕ) where
-    pub c-encrypting : BlockOut encryption key (Capi.sixteen low high) out (left (Capi.told w) now) → Capi.outcome w now ≡ Capi.encryptOutcome key low high out
+    pub c-encrypting : BlockOut encryption key (sixteen low high) out (left (told w) now) → Capi.outcome w now ≡ Capi.encryptOutcome key low high out
     c-encrypting k = one-outcome w now _ (one-block encryption key _ out _ _ k (encrypt-out key low high out))
 
-    pub c-decrypting : BlockOut decryption key (Capi.sixteen low high) out (left (Capi.told w) now) → Capi.outcome w now ≡ Capi.decryptOutcome key low high out
+    pub c-decrypting : BlockOut decryption key (sixteen low high) out (left (told w) now) → Capi.outcome w now ≡ Capi.decryptOutcome key low high out
     c-decrypting k = one-outcome w now _ (one-block decryption key _ out _ _ k (decrypt-out key low high out))
 
-  pub c-parsing : (info out : List ℕ) → DescriptorOut info out (left (Capi.told w) now) → Capi.outcome w now ≡ Capi.parseOutcome info out
+  pub c-parsing : (info out : List ℕ) → DescriptorOut info out (left (told w) now) → Capi.outcome w now ≡ Capi.parseOutcome info out
   c-parsing info out k =
       let d = descriptor-out info out in
       one-outcome w now _
-      (one-value infoNumbers (Capi.descriptorBytes (described info)) out _ _ (k .value) (d .value) (one-answer (infoRules info) _ _ (k .answers) (d .answers)))
+      (one-value infoNumbers (descriptorBytes (described info)) out _ _ (k .value) (d .value) (one-answer (infoRules info) _ _ (k .answers) (d .answers)))
 
-  pub c-judging : (lock : Lock) → VerdictOut lock (Capi.told w) → w ≡ Capi.verdictWord lock
+  pub c-judging : (lock : Lock) → VerdictOut lock (told w) → w ≡ Capi.verdictWord lock
   c-judging lock k =
       let n = one-judging lock _ (k .judged) in
-      let r : Capi.told w ≡ reply (judged lock) 0 = λ i. reply (n i) (k .sizeless i) in
+      let r : told w ≡ reply (judged lock) 0 = λ i. reply (n i) (k .sizeless i) in
       one-told w _ (r ∙ sym (verdict-told lock))
 
-  pub c-opening : (lock : Lock) (stream out : List ℕ) → Opening lock stream out (left (Capi.told w) now)
+  pub c-opening : (lock : Lock) (stream out : List ℕ) → Opening lock stream out (left (told w) now)
       → Capi.outcome w now ≡ Capi.openOutcome lock stream out
   c-opening lock s out k = one-outcome w now _ (one-opening lock s out _ k ∙ sym (open-told lock s out))
 
   pub c-sealing : (lock : Lock) («package» : List ℕ) (low high extra : ℕ) (out : List ℕ)
-      → Sealing lock «package» (Capi.sixteen low high) (Capi.chosen extra) out (left (Capi.told w) now)
+      → Sealing lock «package» (sixteen low high) (chosen extra) out (left (told w) now)
       → Capi.outcome w now ≡ Capi.sealOutcome lock «package» low high extra out
   c-sealing lock «package» low high extra out k =
       one-outcome w now _ (one-sealing lock «package» _ _ out (length-sixteen low high) _ k ∙ sym (seal-told lock «package» low high extra out))
 
   pub c-writing : (bits : ℕ) (password name : List ℕ) (sl sh vl vh fl fh : ℕ) (out : List ℕ)
-      → Writing (input (Capi.bitCount bits .0) password name (Capi.sixteen sl sh) (Capi.sixteen vl vh) (Capi.twelve fl fh)) out (left (Capi.told w) now)
+      → Writing (input (bitCount bits .0) password name (sixteen sl sh) (sixteen vl vh) (twelve fl fh)) out (left (told w) now)
       → Capi.outcome w now ≡ Capi.writeOutcome bits password name sl sh vl vh fl fh out
   unfolding writes
   c-writing bits password name sl sh vl vh fl fh out k =

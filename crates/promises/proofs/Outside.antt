@@ -15,24 +15,26 @@ use Rattle.aes.specs.Aes.{keyLength, encryption, decryption, encrypted, decrypt
 use Rattle.aes.specs.declared.Reply as Aes
 use Rattle.descriptor.specs.Info.{infoRules, described, parsed}
 use Rattle.password.specs.Lock.{Lock}
+use Rattle.crossing.specs.Crossing.{told, sixteen, twelve, bitCount, chosen, descriptorBytes}
+use Rattle.crossing.proofs.Lossless.{length-sixteen, length-twelve}
 use Rattle.capi.specs.Capi as Capi
-use Rattle.capi.proofs.Lossless.{hash-told, encrypt-told, decrypt-told, parse-told, verdict-told, open-told, seal-told, write-told, length-sixteen, length-twelve}
+use Rattle.capi.proofs.Told.{hash-told, encrypt-told, decrypt-told, parse-told, verdict-told, open-told, seal-told, write-told}
 use Rattle.promises.specs.Words.{Answers}
 use Rattle.promises.specs.Demand1.{infoNumbers}
+use Rattle.promises.proofs.NewInfo.{writes}
 use Rattle.promises.specs.EveryCall.{hashNumbers, blockNumbers}
 use Rattle.promises.specs.Calls.{Enciphering, Opening, Sealing, Writing, Value, HashOut, BlockOut, DescriptorOut, VerdictOut, input}
-use Rattle.promises.proofs.NewInfo.{writes}
 use Rattle.promises.proofs.Calls.{hashing, encrypting, decrypting, parsing, judging, opening, sealing, writing}
 
 -- what is so of the outcome that a function ensures is so of what its caller has
-pub carried : (P : Left → Type 0) {w : ℕ} {now : List ℕ} {o : Capi.Outcome} → Capi.outcome w now ≡ o → P (Capi.readBack o) → P (left (Capi.told w) now)
+pub carried : (P : Left → Type 0) {w : ℕ} {now : List ℕ} {o : Capi.Outcome} → Capi.outcome w now ≡ o → P (Capi.readBack o) → P (left (told w) now)
 carried P e p = subst⁻¹ (λ (o : Capi.Outcome). P (Capi.readBack o)) e p
 
 -- ---- an out parameter of fixed length
 
 -- it is written on answer 0 alone, with what is the value then
 valued : (numbers : List ℕ) (n : ℕ) (bytes value out : List ℕ) → OneOf (0 ∷ numbers) n → (n ≡ 0 → bytes ≡ value)
-    → Capi.told (Capi.outcomeBy n 0 bytes out .word) ≡ reply n 0 → Value numbers value out (Capi.readBack (Capi.outcomeBy n 0 bytes out))
+    → told (Capi.outcomeBy n 0 bytes out .word) ≡ reply n 0 → Value numbers value out (Capi.readBack (Capi.outcomeBy n 0 bytes out))
 unfolding Capi.outcomeBy
 valued numbers zero bytes value out o e t =
     subst⁻¹ (λ (r : Reply). Value numbers value out (left r bytes)) t
@@ -52,7 +54,7 @@ hash-out message out =
     }
 
 block-out : (cipher : (key block : List ℕ) → List ℕ) (key block out : List ℕ) (r : Aes.Reply) → Enciphering cipher key block r
-    → Capi.told (Capi.blockOutcome r out .word) ≡ reply (r .answer) 0 → BlockOut cipher key block out (Capi.readBack (Capi.blockOutcome r out))
+    → told (Capi.blockOutcome r out .word) ≡ reply (r .answer) 0 → BlockOut cipher key block out (Capi.readBack (Capi.blockOutcome r out))
 unfolding Capi.blockOutcome
 block-out cipher key block out r k t =
     record {
@@ -61,26 +63,26 @@ block-out cipher key block out r k t =
     }
 
 module _ (key : List ℕ) (low high : ℕ) (out : List ℕ) where
-  pub encrypt-out : BlockOut encryption key (Capi.sixteen low high) out (Capi.readBack (Capi.encryptOutcome key low high out))
+  pub encrypt-out : BlockOut encryption key (sixteen low high) out (Capi.readBack (Capi.encryptOutcome key low high out))
   unfolding Capi.encryptOutcome
-  encrypt-out = block-out encryption key _ out (encrypted key (Capi.sixteen low high)) (encrypting key _) (encrypt-told key low high out)
+  encrypt-out = block-out encryption key _ out (encrypted key (sixteen low high)) (encrypting key _) (encrypt-told key low high out)
 
-  pub decrypt-out : BlockOut decryption key (Capi.sixteen low high) out (Capi.readBack (Capi.decryptOutcome key low high out))
+  pub decrypt-out : BlockOut decryption key (sixteen low high) out (Capi.readBack (Capi.decryptOutcome key low high out))
   unfolding Capi.decryptOutcome
-  decrypt-out = block-out decryption key _ out (decrypted key (Capi.sixteen low high)) (decrypting key _) (decrypt-told key low high out)
+  decrypt-out = block-out decryption key _ out (decrypted key (sixteen low high)) (decrypting key _) (decrypt-told key low high out)
 
 pub descriptor-out : (info out : List ℕ) → DescriptorOut info out (Capi.readBack (Capi.parseOutcome info out))
 unfolding Capi.parseOutcome
 descriptor-out info out =
     let k = parsing info in
     record {
-      value = valued infoNumbers (parsed info .answer) _ (Capi.descriptorBytes (described info)) out (k .ends .answer)
-          (λ z. ap Capi.descriptorBytes (k .published (k .answers .none .0 z))) (parse-told info out);
+      value = valued infoNumbers (parsed info .answer) _ (descriptorBytes (described info)) out (k .ends .answer)
+          (λ z. ap descriptorBytes (k .published (k .answers .none .0 z))) (parse-told info out);
       answers = subst⁻¹ (λ (r : Reply). Answers (infoRules info) (r .answer)) (parse-told info out) (k .answers);
     }
 
 module _ (lock : Lock) where
-  pub verdict-out : VerdictOut lock (Capi.told (Capi.verdictWord lock))
+  pub verdict-out : VerdictOut lock (told (Capi.verdictWord lock))
   verdict-out = subst⁻¹ (VerdictOut lock) (verdict-told lock) (record { judged = judging lock; sizeless = refl })
 
   -- ---- a lent output
@@ -89,16 +91,16 @@ module _ (lock : Lock) where
   open-out s out = subst⁻¹ (Opening lock s out) (open-told lock s out) (opening lock s out)
 
   pub seal-out : («package» : List ℕ) (low high extra : ℕ) (out : List ℕ)
-      → Sealing lock «package» (Capi.sixteen low high) (Capi.chosen extra) out (Capi.readBack (Capi.sealOutcome lock «package» low high extra out))
+      → Sealing lock «package» (sixteen low high) (chosen extra) out (Capi.readBack (Capi.sealOutcome lock «package» low high extra out))
   seal-out «package» low high extra out =
       subst⁻¹ (Sealing lock «package» _ _ out) (seal-told lock «package» low high extra out)
       (sealing lock «package» _ _ out (length-sixteen low high))
 
 pub write-out : (bits : ℕ) (password name : List ℕ) (saltLow saltHigh verifierLow verifierHigh fillingLow fillingHigh : ℕ) (out : List ℕ)
-    → let salt = Capi.sixteen saltLow saltHigh in
-    let verifier = Capi.sixteen verifierLow verifierHigh in
-    let filling = Capi.twelve fillingLow fillingHigh in
-    Writing (input (Capi.bitCount bits .0) password name salt verifier filling) out
+    → let salt = sixteen saltLow saltHigh in
+    let verifier = sixteen verifierLow verifierHigh in
+    let filling = twelve fillingLow fillingHigh in
+    Writing (input (bitCount bits .0) password name salt verifier filling) out
     (Capi.readBack (Capi.writeOutcome bits password name saltLow saltHigh verifierLow verifierHigh fillingLow fillingHigh out))
 unfolding writes
 write-out bits password name saltLow saltHigh verifierLow verifierHigh fillingLow fillingHigh out =

@@ -30,11 +30,11 @@ use Rattle.promises.specs.Words.{Accepted, writtenPart}
 use Rattle.promises.specs.Demand1.{Holds, Call, openNumbers}
 use Rattle.promises.specs.Demand3.{Begins, Sealed, Only}
 use Rattle.promises.specs.NewInfo.{Input, Typed, GivesBack}
-use Rattle.promises.specs.Calls.{Opening, Sealing, Writing, Roomy, Returned, Resealed, Reading}
 use Rattle.promises.proofs.Ended.{wrote}
 use Rattle.promises.proofs.Demand2.{demand-2}
 use Rattle.promises.proofs.Demand3.{demand-3}
 use Rattle.promises.proofs.NewInfo.{writes, new-info}
+use Rattle.promises.specs.Calls.{Opening, Sealing, Writing, Roomy, Returned, Resealed, Reading}
 use Rattle.promises.proofs.Calls.{opening, sealing, writing}
 
 -- ---- what is lent on

@@ -19,7 +19,7 @@ use Rattle.password.specs.Verdict.{verdictRules}
 use Rattle.password.specs.Lock.{Lock, lockOf}
 use Rattle.lengths.specs.Lengths.{fillingFor}
 use Rattle.sheet.specs.Sheet.{openRules, sealRules, packageOf, filledWith, sealingOf, sealed}
-use Rattle.capi.specs.Capi.{descriptorBytes}
+use Rattle.crossing.specs.Crossing.{descriptorBytes}
 use Rattle.files.specs.Files.{File, units, rules}
 use Rattle.promises.specs.Words.{Accepted, Answers, writtenPart}
 use Rattle.promises.specs.Demand1.{OnOutput, Untouched, Call, Parse, Verdict, infoNumbers, openNumbers, sealNumbers}

@@ -13,6 +13,7 @@ use Rattle.password.specs.Verdict.{judged}
 use Rattle.password.specs.Lock.{Lock}
 use Rattle.sheet.specs.Sheet.{opened, sealed}
 use Rattle.writer.specs.Written.{written}
+use Rattle.crossing.specs.Crossing.{told}
 use Rattle.capi.specs.Capi as Capi
 use Rattle.files.specs.Files.{File, filesOpened}
 use Rattle.promises.specs.Demand1.{Concludes, OnOutput, Parse, Verdict, infoNumbers, verdictNumbers, openNumbers, sealNumbers}
@@ -59,7 +60,7 @@ pub record EveryCall : Type 0 where
   pub c-aes-encrypt : (key : List ℕ) (low high : ℕ) (out : List ℕ) → FromC blockNumbers out (Capi.encryptOutcome key low high out)
   pub c-aes-decrypt : (key : List ℕ) (low high : ℕ) (out : List ℕ) → FromC blockNumbers out (Capi.decryptOutcome key low high out)
   pub c-parse : (info out : List ℕ) → FromC infoNumbers out (Capi.parseOutcome info out)
-  pub c-verdict : (lock : Lock) → let r = Capi.told (Capi.verdictWord lock) in Concludes {A = Unit} verdictNumbers tt (r .answer) (r .size) tt
+  pub c-verdict : (lock : Lock) → let r = told (Capi.verdictWord lock) in Concludes {A = Unit} verdictNumbers tt (r .answer) (r .size) tt
   pub c-open : (lock : Lock) (stream out : List ℕ) → FromC openNumbers out (Capi.openOutcome lock stream out)
   pub c-seal : (lock : Lock) («package» : List ℕ) (low high extra : ℕ) (out : List ℕ)
       → FromC sealNumbers out (Capi.sealOutcome lock «package» low high extra out)

@@ -11,8 +11,8 @@ use Rattle.answers.specs.Ended.{Left}
 use Rattle.sha1.specs.Sha1.{sha1}
 use Rattle.steps.specs.Steps.{sealAll}
 use Rattle.descriptor.specs.Info.{algIdOf}
+use Rattle.derivation.specs.Key.{keyBytes}
 use Rattle.password.specs.Lock.{lockOf}
-use Rattle.password.specs.Key.{keyBytes}
 use Rattle.sheet.specs.Frame.{Pair, Lawful}
 use Rattle.sheet.specs.Sheet.{lengths}
 use Rattle.writer.specs.Written.{writeRules, infoOf}

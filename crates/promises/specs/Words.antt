@@ -10,7 +10,7 @@ use Rattle.answers.specs.Rules.{Rule, AllHold, First}
 use Rattle.answers.specs.Ended.{Left}
 use Rattle.descriptor.specs.Info.{keySize, saltOf}
 use Rattle.descriptor.specs.declared.Parsed.{Parsed}
-use Rattle.password.specs.Key.{keyBytes}
+use Rattle.derivation.specs.Key.{keyBytes}
 use Rattle.password.specs.Lock.{Lock}
 
 -- ---- the entries

@@ -15,10 +15,10 @@ fn derivation(name: &[u8], salt: [u8; 16], password: &[u16])
 {
     lines::text(b"key ");
     lines::text(name);
-    let h = password::password_hash(salt, password);
+    let h = derivation::password_hash(salt, password);
     hash(b": H ", h);
-    hash(b" B ", password::block_hash(0, h));
-    let k = password::material(salt, password);
+    hash(b" B ", derivation::block_hash(0, h));
+    let k = derivation::material(salt, password);
     lines::text(b" 16 ");
     lines::part(&k, 0, 16);
     lines::text(b" 24 ");

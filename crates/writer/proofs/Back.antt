@@ -16,11 +16,12 @@ use Rattle.descriptor.specs.declared.Suite.{Suite}
 use Rattle.descriptor.proofs.Algorithms.{key-row}
 use Rattle.descriptor.proofs.Laws.{Admitted}
 use Rattle.descriptor.proofs.LaidOut.{Held, Measured, Good, reads, laid-bytes, laid-admitted, laid-described, laid-name, length-laid}
+use Rattle.derivation.proofs.Laws.{keyBytes-bytes}
 use Rattle.password.specs.Lock.{lockOf}
 use Rattle.password.specs.Verifier.{verifierSealing, verifierOpening, verifierField, hashField, matches}
 use Rattle.password.specs.Verdict.{judged}
 use Rattle.password.proofs.Fields.{length-fields, fields-match, fields-bytes}
-use Rattle.password.proofs.Laws.{Matched, keyBytes-bytes, keyOf-is, accepted}
+use Rattle.password.proofs.Laws.{Matched, keyOf-is, accepted}
 use Rattle.writer.specs.Written.{newFields, infoOf}
 use Rattle.writer.proofs.Laws.{Writable, newKey}
 

@@ -16,9 +16,10 @@ use Rattle.answers.proofs.Endings.{ended-answer, ended-done}
 use Rattle.aes.specs.Aes.{keyLength}
 use Rattle.aes.proofs.Keys.{key-lengths}
 use Rattle.descriptor.proofs.Algorithms.{key-row, key-known, in-bytes}
-use Rattle.password.specs.Key.{keyBytes}
+use Rattle.derivation.specs.Key.{keyBytes}
+use Rattle.derivation.proofs.Laws.{length-keyBytes}
 use Rattle.password.specs.Verdict.{textRules}
-use Rattle.password.proofs.Laws.{length-keyBytes, text-numbered, text-numbers, text-short}
+use Rattle.password.proofs.Laws.{text-numbered, text-numbers, text-short}
 use Rattle.writer.specs.Written.{nameLimit, infoSize, fieldRules, writeRules, infoOf, written}
 
 -- ---- what is accepted

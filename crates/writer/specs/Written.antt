@@ -9,7 +9,7 @@ use Rattle.answers.specs.Rules.{Rule, rule, firstOf, roomRules}
 use Rattle.answers.specs.Ended.{Left, ended}
 use Rattle.descriptor.specs.Info.{algIdOf}
 use Rattle.descriptor.specs.LaidOut.{Fields, laidOut}
-use Rattle.password.specs.Key.{keyBytes}
+use Rattle.derivation.specs.Key.{keyBytes}
 use Rattle.password.specs.Verifier.{verifierSealing, verifierField, hashField}
 use Rattle.password.specs.Verdict.{textRules}
 

@@ -63,7 +63,7 @@ pub fn write_info(
         return answers::ended(a, 0, out);
     }
     let front = header::front(bits, n);
-    let key = password::expanded_key(descriptor::in_bytes(bits), salt, password);
+    let key = derivation::expanded_key(descriptor::in_bytes(bits), salt, password);
     let locked = verifier::locked(key, salt, verifier, filling);
     octets::copy(&front, 0, 44, out, 0);
     octets::copy(name, 0, n, out, 44);

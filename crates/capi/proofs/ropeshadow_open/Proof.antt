@@ -1,6 +1,6 @@
 -- The reply crosses as it is, and its size fits.
 use borrow.Author.Needs.{needs}
-use Rattle.capi.proofs.Bounds.{open-held}
+use Rattle.capi.proofs.Sizes.{open-held}
 use Rattle.capi.proofs.Ended.{open-crossed}
 use Rattle.capi.proofs.ropeshadow_open.Statement.{statement}
 use Rattle.capi.proofs.ropeshadow_open.Tie as tie

@@ -1,7 +1,7 @@
 -- The reply crosses as it is, its size fits, the filling is the two numbers' and the choice the third's.
 use borrow.Author.Needs.{needs}
-use Rattle.capi.specs.Capi as Capi
-use Rattle.capi.proofs.Bounds.{seal-held}
+use Rattle.crossing.specs.Crossing.{chosen}
+use Rattle.capi.proofs.Sizes.{seal-held}
 use Rattle.capi.proofs.Ended.{seal-crossed}
 use Rattle.capi.proofs.ropeshadow_seal.Statement.{statement}
 use Rattle.capi.proofs.ropeshadow_seal.Tie as tie
@@ -10,7 +10,7 @@ word-requires : tie.Need-word-requires
 word-requires c κs = seal-held _ _ _ _ _ _ _ (c .before .before .seal .ensures)
 
 returns : tie.Need-returns
-unfolding Capi.chosen
+unfolding chosen
 returns c =
     let s = c .before .before .before in
     let a = s .before .before .before .before .before .before .before .args in

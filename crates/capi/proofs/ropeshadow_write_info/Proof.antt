@@ -1,7 +1,7 @@
 -- The reply crosses as it is, its size fits, and what is written is made of the numbers given.
 use borrow.Author.Needs.{needs}
 use Rattle.capi.specs.Capi as Capi
-use Rattle.capi.proofs.Bounds.{write-held}
+use Rattle.capi.proofs.Sizes.{write-held}
 use Rattle.capi.proofs.Ended.{write-crossed}
 use Rattle.capi.proofs.ropeshadow_write_info.Statement.{statement}
 use Rattle.capi.proofs.ropeshadow_write_info.Tie as tie

@@ -1,6 +1,6 @@
 -- Each way out is a law of `filesOpened`: a refusal by rule 17, or what `sheet` opens.
 use mathlib.Core.Path.{_≡_, sym, _∙_}
-use Prim.Native.Nat.{_/_, _≤_}
+use Prim.Native.Nat.{_≤_}
 use native.Mathlib.Omega.{arith}
 use borrow.Author.Needs.{needs}
 use lib.ListN.{length}

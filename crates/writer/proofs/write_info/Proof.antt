@@ -11,7 +11,7 @@ use Rattle.aes.specs.declared.Expanded.{Expanded}
 use Rattle.blocks.proofs.Aes.{expanded-rounds}
 use Rattle.descriptor.specs.declared.ByteCount.{ByteCount}
 use Rattle.descriptor.proofs.Algorithms.{key-row}
-use Rattle.password.specs.Key.{keyBytes}
+use Rattle.derivation.specs.Key.{keyBytes}
 use Rattle.writer.specs.Written.{nameLimit, writeRules, written}
 use Rattle.writer.proofs.Laws.{Writable, writable, newKey, key-fits}
 use Rattle.writer.proofs.Laid.{written-laid}

@@ -5,10 +5,6 @@ use borrow.Author.Needs.{needs}
 use lib.ListN.{length}
 use Rattle.program.proofs.input.read_some.Statement.{statement}
 use Rattle.program.proofs.input.read_some.Tie as tie
-use Rattle.program.proofs.input.read_some.Reads as reads
-use Rattle.program.proofs.input.read_some.Lts as lts
-use Rattle.libc.proofs.read.Reads as read-reads
-use Rattle.os.proofs.errno.Reads as errno-reads
 
 abbrev Inv-loop : tie.InvT-loop
 Inv-loop fd room₀ turns₀ got₀ room turns got = length room ≡ length room₀

@@ -1,0 +1,36 @@
+// A descriptor in 84 bytes: its fields one after the other.
+ghost use mathlib.Core.Path.{_≡_};
+ghost use Rattle.crossing.specs.Crossing as Crossing;
+use descriptor::Descriptor;
+
+// The numbers of a descriptor.
+fn numbers(d: Descriptor) -> [u8; 20]
+    requires { ⌜ Crossing.Crosses d ⌝ }
+    ensures { λ r. ⌜ r ≡ Crossing.numberBytes d ⌝ }
+{
+    let mut b = [0u8; 20];
+    octets::put_le16(&mut b, 0, d.major);
+    octets::put_le16(&mut b, 2, d.minor);
+    octets::put_le32(&mut b, 4, d.alg_id);
+    octets::put_le32(&mut b, 8, d.key_size.0 as u32);
+    octets::put_le32(&mut b, 12, d.name_place as u32);
+    octets::put_le32(&mut b, 16, d.name_length as u32);
+    b
+}
+
+// They, and the fields that are bytes.
+pub fn descriptor_bytes(d: Descriptor) -> [u8; 84]
+    requires { ⌜ Crossing.Crosses d ⌝ }
+    ensures { λ r. ⌜ r ≡ Crossing.descriptorBytes d ⌝ }
+{
+    let n = numbers(d);
+    let salt = d.salt;
+    let verifier = d.encrypted_verifier;
+    let hash = d.encrypted_verifier_hash;
+    let mut b = [0u8; 84];
+    octets::copy(&n, 0, 20, &mut b, 0);
+    octets::copy(&salt, 0, 16, &mut b, 20);
+    octets::copy(&verifier, 0, 16, &mut b, 36);
+    octets::copy(&hash, 0, 32, &mut b, 52);
+    b
+}
