@@ -138,11 +138,6 @@ both-zero rs ts t h =
       | inr e ↦ let n : firstOf rs ≡ 0 → ⊥ = eqb-false _ _ e in absurd (n (sym (stop rs ts n) ∙ h))
     ]
 
--- lists of numbers above 0 stay so end to end
-pub both-numbered : (rs ts : List Rule) → T (numbered rs) → T (numbered ts) → T (numbered (rs ++ ts))
-both-numbered [] ts t u = u
-both-numbered (r ∷ rs) ts t u = let a = both (ltb 0 (r .number)) (numbered rs) t in pass (ltb 0 (r .number)) (numbered (rs ++ ts)) (a .0) (both-numbered rs ts (a .1) u)
-
 -- lists end to end hold exactly where both do
 pub both-hold : (rs ts : List Rule) → AllHold (rs ++ ts) ↔ (AllHold rs × AllHold ts)
 both-hold [] ts = (λ h. (tt, h), λ h. h .1)
@@ -172,11 +167,19 @@ pub numbers-both : (rs ts : List Rule) → numbers (rs ++ ts) ≡ numbers rs ++ 
 numbers-both [] ts = refl
 numbers-both (r ∷ rs) ts = ap (_∷_ (r .number)) (numbers-both rs ts)
 
--- ---- the rule on room
+-- whether numbers are above 0 is seen from the numbers
+abbrev pub aboveZero : List ℕ → Bool
+aboveZero [] = true
+aboveZero (n ∷ ns) = ltb 0 n && aboveZero ns
 
-pub room-numbered : (room size : ℕ) → T (numbered (roomRules room size))
-unfolding roomRules
-room-numbered room size = tt
+numbered-by : (rs : List Rule) → numbered rs ≡ aboveZero (numbers rs)
+numbered-by [] = refl
+numbered-by (r ∷ rs) = ap (_&&_ (ltb 0 (r .number))) (numbered-by rs)
+
+pub by-numbers : (rs : List Rule) (ns : List ℕ) → numbers rs ≡ ns → T (aboveZero ns) → T (numbered rs)
+by-numbers rs ns e t = rw (numbered-by rs, e) t
+
+-- ---- the rule on room
 
 pub room-numbers : (room size : ℕ) → numbers (roomRules room size) ≡ 16 ∷ []
 unfolding roomRules

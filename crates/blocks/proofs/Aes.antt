@@ -18,13 +18,13 @@ use Rattle.steps.specs.Steps.{Step, resumed, Sized, Reverses}
 use Rattle.steps.specs.Ecb.{ecb, Blocks}
 use Rattle.steps.proofs.Made.{resumed-sized}
 use Rattle.steps.proofs.Ecb.{ecb-sized, ecb-reverses}
-use Rattle.blocks.specs.Blocks.{ecbBy, ecbUnder, streamStart}
+use Rattle.blocks.specs.Blocks.{ecbBy, ecbUnder, stepFrom, streamStart}
 use Rattle.blocks.specs.declared.Place.{Place}
 
 -- from any place on both ways give sixteen bytes
-pub by-sized : (w : List ℕ) (rounds n : ℕ) (p : List ℕ) → Sized (resumed n p (ecbBy w rounds))
+pub by-sized : (p : Place) (w : List ℕ) (rounds : ℕ) → Sized (stepFrom p w rounds)
 unfolding ecbBy
-by-sized w rounds n p = resumed-sized _ (ecb-sized (cipher (roundKey w) rounds) (invCipher (roundKey w) rounds) (length-cipher (roundKey w) rounds) (length-invCipher (roundKey w) rounds)) n p
+by-sized p w rounds = resumed-sized _ (ecb-sized (cipher (roundKey w) rounds) (invCipher (roundKey w) rounds) (length-cipher (roundKey w) rounds) (length-invCipher (roundKey w) rounds)) (p .number) (p .before)
 
 module _ (k : List ℕ) where
   pub under-width : ecbUnder k .width ≡ 16
@@ -72,17 +72,17 @@ module _ (k : List ℕ) where
     by-expanded = ap₂ ecb (λ i b. cipher-expanded k b t i) (λ i b. invCipher-expanded k b t i)
 
     -- a stream taken up at its start
-    pub under-started : (e : Expanded) (p : Place) → e ≡ expanded k → p ≡ streamStart → resumed (p .number) (p .before) (ecbBy (e .bytes) (e .rounds)) ≡ ecbUnder k
+    pub under-started : (e : Expanded) (p : Place) → e ≡ expanded k → p ≡ streamStart → stepFrom p (e .bytes) (e .rounds) ≡ ecbUnder k
     unfolding ecbUnder ecb
     under-started e p q s =
-        ap (λ (x : Place). resumed (x .number) (x .before) (ecbBy (e .bytes) (e .rounds))) s
-        ∙ ap (λ (x : Expanded). resumed 0 (streamStart .before) (ecbBy (x .bytes) (x .rounds))) q
+        ap (λ (x : Place). stepFrom x (e .bytes) (e .rounds)) s
+        ∙ ap (λ (x : Expanded). stepFrom streamStart (x .bytes) (x .rounds)) q
         ∙ ap (resumed 0 (streamStart .before)) by-expanded
 
     -- what either way lays from the start, over the whole of a buffer
     pub laid-under : (way : Step → List ℕ → List ℕ) (e : Expanded) (p : Place) (n : ℕ) (d s x : List ℕ) → e ≡ expanded k → p ≡ streamStart → length d ≡ n
-        → length (way (ecbUnder k) s) ≡ n → x ≡ paste d 0 (way (resumed (p .number) (p .before) (ecbBy (e .bytes) (e .rounds))) s) n → x ≡ way (ecbUnder k) s
+        → length (way (ecbUnder k) s) ≡ n → x ≡ paste d 0 (way (stepFrom p (e .bytes) (e .rounds)) s) n → x ≡ way (ecbUnder k) s
     laid-under way e p n d s x q h ld long laid =
-        laid ∙ paste-whole d (way (resumed (p .number) (p .before) (ecbBy (e .bytes) (e .rounds))) s) n ld
+        laid ∙ paste-whole d (way (stepFrom p (e .bytes) (e .rounds)) s) n ld
         ∙ ap (λ (step : Step). take n (way step s)) (under-started e p q h)
         ∙ take-all n (way (ecbUnder k) s) (omega arith)

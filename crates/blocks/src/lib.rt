@@ -9,11 +9,11 @@ ghost use mathlib.Core.List.{_++_};
 ghost use Prim.Native.Nat.{_+_, _*_, _/_, _%_, _^_, _<_, _≤_, min};
 ghost use lib.ListN.{length, take, drop};
 ghost use lib.Seq.{paste};
-ghost use Rattle.steps.specs.Steps.{resumed, openAll, sealAll};
 ghost use Rattle.fips197.specs.Tables.{sbox, invSbox};
 ghost use Rattle.fips197.specs.Cipher.{invMixColumns, cipher};
 ghost use Rattle.aes_stream.specs.Words.{Forward, Inverse};
-ghost use Rattle.blocks.specs.Blocks.{ecbBy};
+ghost use Rattle.steps.specs.Steps.{openAll, sealAll};
+ghost use Rattle.blocks.specs.Blocks.{ecbBy, stepFrom};
 ghost use Rattle.blocks.specs.Blocks as Blocks;
 use aes::Expanded;
 use aes::tables;
@@ -89,7 +89,7 @@ fn decrypt_with(
     requires { ⌜ (0 < rounds) × (rounds ≤ 14) × (length (now w) ≡ 240) × (length (now mixed) ≡ 240) ⌝ }
     requires { ⌜ (now mixed ≡ invMixColumns (now w)) × (now table ≡ invSbox) × Inverse (now words) ⌝ }
     requires { ⌜ (size ≤ 16 * (length (now src) / 16)) × (size ≤ length (now out)) × (place .number + size < 2 ^ 64) ⌝ }
-    ensures { λ _. ⌜ now (out .exit) ≡ paste (now (out .entry)) 0 (openAll (resumed (place .number) (place .before) (ecbBy (now (w .entry)) rounds)) (now (src .entry))) size ⌝ }
+    ensures { λ _. ⌜ now (out .exit) ≡ paste (now (out .entry)) 0 (openAll (stepFrom place (now (w .entry)) rounds) (now (src .entry))) size ⌝ }
 {
     let mut before = place.before;
     let mut i = 0;
@@ -112,7 +112,7 @@ fn decrypt_with(
 pub fn decrypt(key: Expanded, place: Place, src: &[u8], size: usize, out: &mut [u8])
     requires { ⌜ (0 < key .rounds) × (key .rounds ≤ 14) ⌝ }
     requires { ⌜ (size ≤ 16 * (length (now src) / 16)) × (size ≤ length (now out)) × (place .number + size < 2 ^ 64) ⌝ }
-    ensures { λ _. ⌜ now (out .exit) ≡ paste (now (out .entry)) 0 (openAll (resumed (place .number) (place .before) (ecbBy (key .bytes) (key .rounds))) (now (src .entry))) size ⌝ }
+    ensures { λ _. ⌜ now (out .exit) ≡ paste (now (out .entry)) 0 (openAll (stepFrom place (key .bytes) (key .rounds)) (now (src .entry))) size ⌝ }
 {
     let w = key.bytes;
     let table = tables::INV_SBOX;
@@ -164,7 +164,7 @@ fn encrypt_with(
     requires { ⌜ (0 < rounds) × (rounds ≤ 14) × (length (now w) ≡ 240) × (length (now filling) ≡ 16) ⌝ }
     requires { ⌜ (now table ≡ sbox) × Forward (now words) ⌝ }
     requires { ⌜ (size % 16 ≡ 0) × (size ≤ length (now src) + 16) × (at + size ≤ length (now out)) × (place .number + size < 2 ^ 64) ⌝ }
-    ensures { λ _. ⌜ now (out .exit) ≡ paste (now (out .entry)) at (sealAll (resumed (place .number) (place .before) (ecbBy (now (w .entry)) rounds)) (take size (now (src .entry) ++ now (filling .entry)))) size ⌝ }
+    ensures { λ _. ⌜ now (out .exit) ≡ paste (now (out .entry)) at (sealAll (stepFrom place (now (w .entry)) rounds) (take size (now (src .entry) ++ now (filling .entry)))) size ⌝ }
 {
     let mut before = place.before;
     let mut i = 0;
@@ -193,7 +193,7 @@ pub fn encrypt(
 )
     requires { ⌜ (0 < key .rounds) × (key .rounds ≤ 14) ⌝ }
     requires { ⌜ (size % 16 ≡ 0) × (size ≤ length (now src) + 16) × (at + size ≤ length (now out)) × (place .number + size < 2 ^ 64) ⌝ }
-    ensures { λ _. ⌜ now (out .exit) ≡ paste (now (out .entry)) at (sealAll (resumed (place .number) (place .before) (ecbBy (key .bytes) (key .rounds))) (take size (now (src .entry) ++ filling))) size ⌝ }
+    ensures { λ _. ⌜ now (out .exit) ≡ paste (now (out .entry)) at (sealAll (stepFrom place (key .bytes) (key .rounds)) (take size (now (src .entry) ++ filling))) size ⌝ }
 {
     let w = key.bytes;
     let table = tables::SBOX;

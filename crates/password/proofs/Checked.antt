@@ -11,9 +11,9 @@ use Rattle.octets.proofs.Equal.{same-self, same-false}
 use Rattle.octets.proofs.Parts.{length-part}
 use Rattle.aes.specs.Aes.{keyLength, expanded}
 use Rattle.aes.specs.declared.Expanded.{Expanded}
-use Rattle.steps.specs.Steps.{resumed, openAll}
+use Rattle.steps.specs.Steps.{openAll}
 use Rattle.steps.proofs.Made.{length-open-all}
-use Rattle.blocks.specs.Blocks.{ecbBy, ecbUnder, streamStart}
+use Rattle.blocks.specs.Blocks.{ecbUnder, stepFrom, streamStart}
 use Rattle.blocks.specs.declared.Place.{Place}
 use Rattle.blocks.proofs.Aes.{under-width, under-sized, laid-under}
 use Rattle.password.specs.Verifier.{verifierOpening}
@@ -37,7 +37,7 @@ module _ (x y : List ℕ) (hx : length x ≡ 20) (hy : length y ≡ 48) where
 
 -- 48 bytes decrypted into as many
 pub opened-law : (key : Expanded) (p : Place) (k s x : List ℕ) → keyLength (length k) ≡ true → key ≡ expanded k → p ≡ streamStart → length s ≡ 48
-    → x ≡ paste (replicate 48 0) 0 (openAll (resumed (p .number) (p .before) (ecbBy (key .bytes) (key .rounds))) s) 48 → x ≡ verifierOpening k s
+    → x ≡ paste (replicate 48 0) 0 (openAll (stepFrom p (key .bytes) (key .rounds)) s) 48 → x ≡ verifierOpening k s
 unfolding verifierOpening
 opened-law key p k s x t q h l e =
     laid-under k t openAll key p 48 (replicate 48 0) s x q h refl (length-open-all (ecbUnder k) (under-sized k) s ∙ rw (under-width k, l)) e

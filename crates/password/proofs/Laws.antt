@@ -10,13 +10,13 @@ use lib.Dec.{T, eqb}
 use lib.ListN.{length}
 use Rattle.octets.specs.Octets.{Bytes}
 use Rattle.answers.specs.Rules.{firstOf, after, numbered, numbers}
-use Rattle.answers.proofs.Laws.{either, in-turn, after-none, after-some, after-zero, numbers-both, both-zero, both-numbered, none-broken}
+use Rattle.answers.proofs.Laws.{either, in-turn, after-none, after-some, after-zero, numbers-both, by-numbers, both-zero, none-broken}
 use Rattle.aes.specs.Aes.{keyLength, expanded}
 use Rattle.aes.proofs.Keys.{key-lengths}
 use Rattle.descriptor.specs.Info.{infoRules, described, parsed}
 use Rattle.descriptor.specs.declared.Descriptor.{Descriptor}
 use Rattle.descriptor.specs.declared.Parsed.{Parsed}
-use Rattle.descriptor.proofs.Laws.{Admitted, WellFormed, info-numbered, info-numbers, parsed-answer, parsed-fields}
+use Rattle.descriptor.proofs.Laws.{Admitted, WellFormed, info-numbered, info-list, info-numbers, parsed-answer, parsed-fields}
 use Rattle.derivation.specs.Key.{keyBytes}
 use Rattle.derivation.proofs.Laws.{length-keyBytes, keyBytes-bytes}
 use Rattle.password.specs.Lock.{Lock, lockOf}
@@ -48,10 +48,6 @@ module _ (d : Descriptor) (p : List ℕ) (h : WellFormed d) where
 
 -- ---- the rules
 
-pub text-numbered : (p : List ℕ) → T (numbered (Verdict.textRules p))
-unfolding Verdict.textRules
-text-numbered p = tt
-
 pub text-numbers : (p : List ℕ) → numbers (Verdict.textRules p) ≡ 11 ∷ []
 unfolding Verdict.textRules
 text-numbers p = refl
@@ -61,24 +57,25 @@ pub text-short : (p : List ℕ) → (firstOf (Verdict.textRules p) ≡ 0) ↔ (l
 unfolding Verdict.textRules
 text-short p = (λ h. ltb-false _ _ (none-broken (Verdict.textRules p) tt .0 h .0), λ h. none-broken (Verdict.textRules p) tt .1 (le-ltb _ _ h, tt))
 
-verifier-numbered : (d : Descriptor) (p : List ℕ) → T (numbered (Verdict.verifierRules d p))
-unfolding Verdict.verifierRules
-verifier-numbered d p = tt
+abbrev early-list : List ℕ
+early-list = info-list ++ 11 ∷ []
+
+early-numbers : (lock : Lock) → numbers (Verdict.earlyRules lock) ≡ early-list
+unfolding Verdict.earlyRules
+early-numbers lock = simp (numbers-both, info-numbers, text-numbers)
 
 early-numbered : (lock : Lock) → T (numbered (Verdict.earlyRules lock))
-unfolding Verdict.earlyRules
-early-numbered lock = both-numbered (infoRules (lock .info)) (Verdict.textRules (lock .password)) (info-numbered (lock .info)) (text-numbered (lock .password))
+early-numbered lock = by-numbers (Verdict.earlyRules lock) _ (early-numbers lock) tt
+
+abbrev pub verdict-list : List ℕ
+verdict-list = early-list ++ 12 ∷ []
+
+pub verdict-numbers : (lock : Lock) → numbers (Verdict.verdictRules lock) ≡ verdict-list
+unfolding Verdict.verdictRules Verdict.verifierRules
+verdict-numbers lock = simp (numbers-both, early-numbers)
 
 pub verdict-numbered : (lock : Lock) → T (numbered (Verdict.verdictRules lock))
-unfolding Verdict.verdictRules
-verdict-numbered lock =
-    both-numbered (Verdict.earlyRules lock) _ (early-numbered lock) (verifier-numbered (described (lock .info)) (lock .password))
-
-pub verdict-numbers : (lock : Lock) → numbers (Verdict.verdictRules lock) ≡ 1 ∷ 2 ∷ 3 ∷ 4 ∷ 5 ∷ 6 ∷ 7 ∷ 8 ∷ 9 ∷ 10 ∷ 11 ∷ 12 ∷ []
-unfolding Verdict.verdictRules Verdict.earlyRules Verdict.verifierRules
-verdict-numbers lock =
-    numbers-both (infoRules (lock .info) ++ Verdict.textRules (lock .password)) _
-    ∙ rw (numbers-both (infoRules (lock .info)) (Verdict.textRules (lock .password)), info-numbers (lock .info), text-numbers (lock .password))
+verdict-numbered lock = by-numbers (Verdict.verdictRules lock) _ (verdict-numbers lock) tt
 
 -- the password matches the verifier of a descriptor
 abbrev pub Matched : Descriptor → List ℕ → Bool
@@ -94,9 +91,18 @@ module _ (lock : Lock) where
   abbrev early : ℕ
   early = firstOf (Verdict.earlyRules lock)
 
-  pub early-in-turn : early ≡ after (firstOf (infoRules (lock .info))) (firstOf (Verdict.textRules (lock .password)))
+  early-in-turn : early ≡ after (firstOf (infoRules (lock .info))) (firstOf (Verdict.textRules (lock .password)))
   unfolding Verdict.earlyRules
   early-in-turn = in-turn (infoRules (lock .info)) (Verdict.textRules (lock .password)) (info-numbered (lock .info))
+
+  -- nothing to object: EncryptionInfo is admitted, and the text too
+  pub early-zero : early ≡ 0 → Admitted (lock .info) × (firstOf (Verdict.textRules (lock .password)) ≡ 0)
+  early-zero z = after-zero _ _ (sym early-in-turn ∙ z)
+
+  -- as it is judged: by the parse
+  pub early-parsed : early ≡ Verdict.earlyOf (parsed (lock .info)) (lock .password)
+  unfolding Verdict.earlyOf
+  early-parsed = rw (parsed-answer (lock .info)) early-in-turn
 
   -- then the verifier
   in-order : Verdict.judged lock ≡ after early (firstOf (Verdict.verifierRules d (lock .password)))
@@ -139,7 +145,7 @@ module _ (lock : Lock) (v : Verdict.judged lock ≡ 0) where
   unfolding Verdict.judged Verdict.verdictRules
   admitted =
       let z = both-zero (Verdict.earlyRules lock) (Verdict.verifierRules (described (lock .info)) (lock .password)) (early-numbered lock) v .0 in
-      after-zero _ _ (sym (early-in-turn lock) ∙ z) .0
+      early-zero lock z .0
 
   pub unlocked-fields : Verdict.unlocked lock .fields ≡ described (lock .info)
   unfolding Verdict.unlocked
@@ -159,28 +165,15 @@ accepted lock h l m =
 
 -- ---- what the verdict depends on
 
--- where EncryptionInfo is admitted, the fields of its parse, and the password
-judged-fields : (lock : Lock) → Admitted (lock .info)
-    → Verdict.judged lock ≡ after (firstOf (Verdict.textRules (lock .password))) (firstOf (Verdict.verifierRules (parsed (lock .info) .fields) (lock .password)))
-judged-fields lock h =
-    in-order lock ∙ rw (early-in-turn lock, h, parsed-fields (lock .info) h, after-none 0 (firstOf (Verdict.textRules (lock .password))) refl)
+-- on the parse and the password alone
+by-parse : (lock : Lock)
+    → Verdict.judged lock ≡ after (Verdict.earlyOf (parsed (lock .info)) (lock .password)) (firstOf (Verdict.verifierRules (parsed (lock .info) .fields) (lock .password)))
+by-parse lock =
+    elim (either (eqb (early lock) 0)) [
+      | inl e ↦ rw (← early-parsed lock, parsed-fields (lock .info) (early-zero lock (eqb-true _ _ e) .0)) (in-order lock)
+      | inr e ↦ in-order lock ∙ after-some _ _ (eqb-false _ _ e) ∙ sym (rw (← early-parsed lock) (after-some _ _ (eqb-false _ _ e)))
+    ]
 
--- and where it is not, the answer
-judged-refused : (lock : Lock) → (Admitted (lock .info) → ⊥) → Verdict.judged lock ≡ parsed (lock .info) .answer
-judged-refused lock h =
-    let a = after-some (firstOf (infoRules (lock .info))) (firstOf (Verdict.textRules (lock .password))) h in
-    in-order lock ∙ rw (early-in-turn lock, a) (after-some _ _ h) ∙ sym (parsed-answer (lock .info))
-
--- so a parse determines the verdict, together with the password
 pub determined : (info other p : List ℕ) → parsed info ≡ parsed other → Verdict.judged (lockOf info p) ≡ Verdict.judged (lockOf other p)
 determined info other p e =
-    let a : firstOf (infoRules info) ≡ firstOf (infoRules other) = sym (parsed-answer info) ∙ ap (λ (x : Parsed). x .answer) e ∙ parsed-answer other in
-    let f : Parsed → ℕ = λ x. after (firstOf (Verdict.textRules p)) (firstOf (Verdict.verifierRules (x .fields) p)) in
-    elim (either (eqb (firstOf (infoRules info)) 0)) [
-      | inl t ↦
-          let h : Admitted info = eqb-true _ _ t in
-          judged-fields (lockOf info p) h ∙ ap f e ∙ sym (judged-fields (lockOf other p) (sym a ∙ h))
-      | inr t ↦
-          let h : Admitted info → ⊥ = eqb-false _ _ t in
-          judged-refused (lockOf info p) h ∙ ap (λ (x : Parsed). x .answer) e ∙ sym (judged-refused (lockOf other p) (λ z. h (a ∙ z)))
-    ]
+    by-parse (lockOf info p) ∙ ap (λ (x : Parsed). after (Verdict.earlyOf x p) (firstOf (Verdict.verifierRules (x .fields) p))) e ∙ sym (by-parse (lockOf other p))

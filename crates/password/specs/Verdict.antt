@@ -4,10 +4,11 @@ use mathlib.Core.List.{List, [], _∷_, _++_}
 use Prim.Native.Nat.{ℕ}
 use lib.Dec.{ltb, eqb}
 use lib.ListN.{length, replicate}
-use Rattle.answers.specs.Rules.{Rule, rule, firstOf}
+use Rattle.answers.specs.Rules.{Rule, rule, firstOf, after}
 use Rattle.aes.specs.Aes.{expanded}
 use Rattle.descriptor.specs.Info.{infoRules, described, zeroed}
 use Rattle.descriptor.specs.declared.Descriptor.{Descriptor}
+use Rattle.descriptor.specs.declared.Parsed.{Parsed}
 use Rattle.derivation.specs.Key.{keyBytes}
 use Rattle.password.specs.Lock.{Lock}
 use Rattle.password.specs.Verifier.{verifierOpening, matches}
@@ -31,6 +32,10 @@ verifierRules d password =
 -- those that are judged before anything is hashed, in order: 1 to 11
 unfoldable pub earlyRules : Lock → List Rule
 earlyRules lock = infoRules (lock .info) ++ textRules (lock .password)
+
+-- what they come to, from the parse and the password
+unfoldable pub earlyOf : Parsed → (password : List ℕ) → ℕ
+earlyOf p password = after (p .answer) (firstOf (textRules password))
 
 -- 1 to 12, in order
 unfoldable pub verdictRules : Lock → List Rule

@@ -14,6 +14,7 @@ mod verifier;
 
 use aes::Expanded;
 use descriptor::Descriptor;
+use descriptor::Parsed;
 
 // An answer and, where it is 0, the descriptor and the expanded key: zeros and no rounds where it is not.
 pub struct Unlocked {
@@ -42,13 +43,20 @@ pub fn text_answer(password: &[u16]) -> u16
     answers::first(255 < password.len(), answers::PASSWORD_LONG, answers::DONE)
 }
 
+// What is answered before anything is hashed.
+fn early_answer(p: Parsed, password: &[u16]) -> u16
+    ensures { λ r. ⌜ r ≡ Verdict.earlyOf p (now (password .entry)) ⌝ }
+{
+    answers::then(p.answer, text_answer(password))
+}
+
 // The verdict on a password, with the descriptor and the key that it unlocks. A refused EncryptionInfo or text is answered before
 // anything is hashed.
 pub fn unlock(info: &[u8], password: &[u16]) -> Unlocked
     ensures { λ r. ⌜ r ≡ Verdict.unlocked (lockOf (now (info .entry)) (now (password .entry))) ⌝ }
 {
     let p = descriptor::parse(info);
-    let a = answers::then(p.answer, text_answer(password));
+    let a = early_answer(p, password);
     if a != answers::DONE {
         return refused(a);
     }

@@ -9,8 +9,8 @@ use native.Mathlib.Omega.{arith}
 use borrow.Author.Tests.{eq-eqb, ne-eqb}
 use lib.Dec.{T}
 use lib.ListN.{length, replicate}
-use Rattle.answers.specs.Rules.{OneOf, firstOf, numbered}
-use Rattle.answers.proofs.Laws.{none-broken, both-zero, both-numbered, numbers-both, listed, listed-in}
+use Rattle.answers.specs.Rules.{OneOf, firstOf, numbered, numbers}
+use Rattle.answers.proofs.Laws.{none-broken, both-zero, numbers-both, by-numbers, listed, listed-in}
 use Rattle.answers.proofs.Endings.{ended-answer}
 use Rattle.sha1.specs.Sha1.{hashRules, hashed}
 use Rattle.aes.specs.Aes.{keyLength, encryption, decryption, doneBlock, refusedBlock, encrypted, decrypted}
@@ -19,7 +19,7 @@ use Rattle.password.specs.Verdict.{judged}
 use Rattle.password.specs.Lock.{Lock, lockOf}
 use Rattle.lengths.specs.Lengths.{streamSize}
 use Rattle.sheet.specs.Sheet.{openRules, packageOf, opened, sealed}
-use Rattle.sheet.proofs.Laws.{open-numbered, open-numbers}
+use Rattle.sheet.proofs.Laws.{open-numbers}
 use Rattle.files.specs.Files.{File, fileRules, units, rules, filesOpened}
 use Rattle.files.proofs.Laws.{file-numbered, file-numbers}
 use Rattle.promises.specs.Words.{Parser, Judge, Opener, Sealer}
@@ -127,17 +127,17 @@ module _ (info password stream : File) (out : List ℕ) where
   abbrev lock : Lock
   lock = lockOf (info .bytes) (units (password .bytes))
 
-  files-numbered : T (numbered (rules info password stream (length out)))
+  files-numbers : numbers (rules info password stream (length out)) ≡ replicate 6 17 ++ fileNumbers
   unfolding rules
-  files-numbered = both-numbered (fileRules info password stream) (openRules lock (stream .bytes) (length out)) (file-numbered info password stream) (open-numbered lock (stream .bytes) out)
+  files-numbers =
+      numbers-both (fileRules info password stream) (openRules lock (stream .bytes) (length out))
+      ∙ rw (file-numbers info password stream, open-numbers lock (stream .bytes) out)
+
+  files-numbered : T (numbered (rules info password stream (length out)))
+  files-numbered = by-numbers (rules info password stream (length out)) _ files-numbers tt
 
   files-answer : OneOf (0 ∷ fileNumbers) (firstOf (rules info password stream (length out)))
-  unfolding rules
-  files-answer =
-      seventeen _
-      (listed-in (rules info password stream (length out)) (replicate 6 17 ++ fileNumbers)
-      (numbers-both (fileRules info password stream) (openRules lock (stream .bytes) (length out))
-      ∙ rw (file-numbers info password stream, open-numbers lock (stream .bytes) out)))
+  files-answer = seventeen _ (listed-in (rules info password stream (length out)) (replicate 6 17 ++ fileNumbers) files-numbers)
 
   files-call : Call fileNumbers (packageOf lock (stream .bytes)) out (filesOpened info password stream out)
   unfolding filesOpened rules

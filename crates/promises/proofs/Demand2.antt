@@ -1,7 +1,7 @@
 -- Our entries keep demand 2: their definitions are what it says, read through the laws of the rules. Assumes nothing.
 use mathlib.Core.Path.{_≡_, ap}
 use mathlib.Core.Bool.{Bool}
-use mathlib.Core.List.{List, _++_}
+use mathlib.Core.List.{List}
 use Prim.Native.Nat.{ℕ, _-_}
 use borrow.Author.Tests.{le-ltb, ltb-false, not-false}
 use lib.ListN.{length}
@@ -29,7 +29,7 @@ module _ (lock : Lock) where
   unfolding judged verdictRules earlyRules textRules verifierRules keyOf described matches verifierOpening ecbUnder
   to-verdict h =
       let all : AllHold (verdictRules lock) = none-broken (verdictRules lock) (verdict-numbered lock) .0 h in
-      let k = both-hold (infoRules (lock .info) ++ textRules (lock .password)) (verifierRules (described (lock .info)) (lock .password)) .0 all in
+      let k = both-hold (earlyRules lock) (verifierRules (described (lock .info)) (lock .password)) .0 all in
       let e = both-hold (infoRules (lock .info)) (textRules (lock .password)) .0 (k .0) in
       (e .0, ltb-false _ _ (e .1 .0), same-true _ _ (not-false _ (k .1 .0)))
 
@@ -38,7 +38,7 @@ module _ (lock : Lock) where
   of-verdict h =
       let e = both-hold (infoRules (lock .info)) (textRules (lock .password)) .1 (h .0, (le-ltb _ _ (h .1), tt)) in
       none-broken (verdictRules lock) (verdict-numbered lock)
-      .1 (both-hold (infoRules (lock .info) ++ textRules (lock .password)) (verifierRules (described (lock .info)) (lock .password)) .1 (e, (rw (h .2, same-self), tt)))
+      .1 (both-hold (earlyRules lock) (verifierRules (described (lock .info)) (lock .password)) .1 (e, (rw (h .2, same-self), tt)))
 
   open-gives : (stream out : List ℕ) → AllHold (openRules lock stream (length out))
       → opened lock stream out ≡ publishedPackage lock stream out

@@ -9,10 +9,10 @@ use lib.ListN.{length}
 use Rattle.octets.specs.Octets.{Bytes}
 use Rattle.aes.specs.Aes.{keyLength, expanded}
 use Rattle.aes.specs.declared.Expanded.{Expanded}
-use Rattle.steps.specs.Steps.{Sized, Reverses, whole, resumed}
+use Rattle.steps.specs.Steps.{Sized, Reverses, whole}
 use Rattle.steps.proofs.Made.{length-open-all, length-seal-all}
 use Rattle.steps.proofs.Inverse.{step-reversible}
-use Rattle.blocks.specs.Blocks.{ecbBy, streamStart}
+use Rattle.blocks.specs.Blocks.{stepFrom, streamStart}
 use Rattle.blocks.specs.declared.Place.{Place}
 use Rattle.blocks.proofs.Aes.{under-started, expanded-rounds}
 use Rattle.descriptor.specs.Info.{described}
@@ -92,6 +92,6 @@ module _ (lock : Lock) where
     rounds-known = subst⁻¹ (λ (x : Expanded). (0 < x .rounds) × (x .rounds ≤ 14)) is (expanded-rounds (sheetKey lock) key-fits)
 
     -- taken up at its start, a stream's step is the one of the key, for every size
-    pub step-under : (p : Place) (size : ℕ) → p ≡ streamStart → resumed (p .number) (p .before) (ecbBy (u .key .bytes) (u .key .rounds)) ≡ sheetStep lock size
+    pub step-under : (p : Place) (size : ℕ) → p ≡ streamStart → stepFrom p (u .key .bytes) (u .key .rounds) ≡ sheetStep lock size
     unfolding sheetStep stepOf
     step-under p size s = under-started (sheetKey lock) key-fits (u .key) p is s

@@ -12,29 +12,28 @@ use Rattle.octets.proofs.Below.{take-below}
 use Rattle.octets.proofs.Numbers.{length-leBytes}
 use Rattle.answers.specs.Rules.{firstOf, after, numbered, numbers}
 use Rattle.answers.specs.Ended.{left, reply}
-use Rattle.answers.proofs.Laws.{in-turn, after-none, both-zero, both-numbered, numbers-both}
+use Rattle.answers.proofs.Laws.{in-turn, after-none, both-zero, numbers-both, by-numbers}
 use Rattle.answers.proofs.Endings.{ended-answer, ended-refused, ended-done}
 use Rattle.password.specs.Lock.{Lock}
 use Rattle.password.specs.Verdict.{judged, verdictRules}
-use Rattle.password.proofs.Laws.{verdict-numbered, verdict-numbers}
+use Rattle.password.proofs.Laws.{verdict-numbered, verdict-list, verdict-numbers}
 use Rattle.lengths.specs.Lengths.{streamSize, packageLimit, fillingFor, rounded, allowed, sealedSize}
 use Rattle.lengths.proofs.Fillings.{filling-most, rounded-whole, filling-allowed, allowed-rounded}
 use Rattle.sheet.specs.Frame.{Pair, pair, streamOf, pairOf, Lawful}
 use Rattle.sheet.specs.Sheet.{lengths, streamRules, packageRules, openRules, sealRules, sealing, opening, packageOf, filledWith, sealingOf, opened, sealed}
-use Rattle.sheet.proofs.Lengths.{Openable, openable, openable-blocks, stream-numbered, stream-numbers, Sealable, sealable, package-numbered, package-numbers}
+use Rattle.sheet.proofs.Lengths.{Openable, openable, openable-blocks, stream-numbers, Sealable, sealable, package-numbers}
 use Rattle.sheet.proofs.Keyed.{length-sealed, length-opened}
 
 -- ---- opening and sealing
 
 module _ (lock : Lock) where
   module _ (s out : List ℕ) where
-    pub open-numbered : T (numbered (openRules lock s (length out)))
-    unfolding openRules
-    open-numbered = both-numbered (verdictRules lock) (streamRules s (length out)) (verdict-numbered lock) (stream-numbered s (length out))
-
-    pub open-numbers : numbers (openRules lock s (length out)) ≡ 1 ∷ 2 ∷ 3 ∷ 4 ∷ 5 ∷ 6 ∷ 7 ∷ 8 ∷ 9 ∷ 10 ∷ 11 ∷ 12 ∷ 13 ∷ 14 ∷ 15 ∷ 16 ∷ []
+    pub open-numbers : numbers (openRules lock s (length out)) ≡ verdict-list ++ 13 ∷ 14 ∷ 15 ∷ 16 ∷ []
     unfolding openRules
     open-numbers = numbers-both (verdictRules lock) (streamRules s (length out)) ∙ rw (verdict-numbers lock, stream-numbers s (length out))
+
+    pub open-numbered : T (numbered (openRules lock s (length out)))
+    open-numbered = by-numbers (openRules lock s (length out)) _ open-numbers tt
 
     pub open-answer : opened lock s out .reply .answer ≡ firstOf (openRules lock s (length out))
     unfolding opened
@@ -69,16 +68,14 @@ module _ (lock : Lock) where
     open-zero h = open-holds (sym open-answer ∙ h)
 
   module _ («package» filling : List ℕ) (extra : Bool) (out : List ℕ) where
-    pub seal-numbered : T (numbered (sealRules lock extra (length «package») (length out)))
-    unfolding sealRules
-    seal-numbered =
-        both-numbered (verdictRules lock) (packageRules extra (length «package») (length out)) (verdict-numbered lock) (package-numbered extra (length «package») (length out))
-
-    pub seal-numbers : numbers (sealRules lock extra (length «package») (length out)) ≡ 1 ∷ 2 ∷ 3 ∷ 4 ∷ 5 ∷ 6 ∷ 7 ∷ 8 ∷ 9 ∷ 10 ∷ 11 ∷ 12 ∷ 14 ∷ 16 ∷ []
+    pub seal-numbers : numbers (sealRules lock extra (length «package») (length out)) ≡ verdict-list ++ 14 ∷ 16 ∷ []
     unfolding sealRules
     seal-numbers =
         numbers-both (verdictRules lock) (packageRules extra (length «package») (length out))
         ∙ rw (verdict-numbers lock, package-numbers extra (length «package») (length out))
+
+    pub seal-numbered : T (numbered (sealRules lock extra (length «package») (length out)))
+    seal-numbered = by-numbers (sealRules lock extra (length «package») (length out)) _ seal-numbers tt
 
     abbrev stream : List ℕ
     stream = sealingOf lock (filledWith «package» filling extra)

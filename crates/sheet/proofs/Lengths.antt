@@ -10,7 +10,7 @@ use lib.Dec.{T}
 use lib.ListN.{length, drop, length-drop}
 use Rattle.octets.specs.Octets.{Bytes}
 use Rattle.answers.specs.Rules.{firstOf, roomRules, numbered, numbers}
-use Rattle.answers.proofs.Laws.{then, both-zero, both-numbered, numbers-both, room-numbered, room-numbers, roomy}
+use Rattle.answers.proofs.Laws.{then, both-zero, numbers-both, room-numbers, roomy}
 use Rattle.lengths.specs.Lengths.{streamSize, packageLimit, sealedSize, lengthRules, sizeRules}
 use Rattle.lengths.proofs.Fillings.{rounded-whole, allowed-rounded}
 use Rattle.lengths.proofs.Rules.{Fitting, fitting, fitting-holds, fitting-filling, lengths-numbered, length-numbers, limited, size-numbered, size-numbers}
@@ -24,10 +24,6 @@ pub record Openable (s : List ℕ) (room : ℕ) : Type 0 where
   pub roomy : streamSize s ≤ room
 
 module _ (s : List ℕ) (room : ℕ) where
-  pub stream-numbered : T (numbered (streamRules s room))
-  unfolding streamRules
-  stream-numbered = both-numbered (lengthRules (length s) (streamSize s)) (roomRules room (streamSize s)) (lengths-numbered _ _) (room-numbered _ _)
-
   pub stream-numbers : numbers (streamRules s room) ≡ 13 ∷ 14 ∷ 15 ∷ 16 ∷ []
   unfolding streamRules
   stream-numbers =
@@ -84,10 +80,6 @@ pub record Sealable (extra : Bool) (size room : ℕ) : Type 0 where
   pub roomy : sealedSize extra size ≤ room
 
 module _ (extra : Bool) (size room : ℕ) where
-  pub package-numbered : T (numbered (packageRules extra size room))
-  unfolding packageRules
-  package-numbered = both-numbered (sizeRules size) (roomRules room (sealedSize extra size)) (size-numbered _) (room-numbered _ _)
-
   pub package-numbers : numbers (packageRules extra size room) ≡ 14 ∷ 16 ∷ []
   unfolding packageRules
   package-numbers = numbers-both (sizeRules size) (roomRules room (sealedSize extra size)) ∙ rw (size-numbers size, room-numbers room (sealedSize extra size))

@@ -18,9 +18,9 @@ use Rattle.sha1.specs.Sha1.{sha1}
 use Rattle.sha1.proofs.Laws.{length-sha1}
 use Rattle.aes.specs.Aes.{keyLength, expanded}
 use Rattle.aes.specs.declared.Expanded.{Expanded}
-use Rattle.steps.specs.Steps.{resumed, sealAll}
+use Rattle.steps.specs.Steps.{sealAll}
 use Rattle.steps.proofs.Made.{length-seal-all}
-use Rattle.blocks.specs.Blocks.{ecbBy, ecbUnder, streamStart}
+use Rattle.blocks.specs.Blocks.{ecbUnder, stepFrom, streamStart}
 use Rattle.blocks.specs.declared.Place.{Place}
 use Rattle.blocks.proofs.Aes.{under-width, under-sized, laid-under}
 use Rattle.descriptor.specs.Info.{algIdOf}
@@ -53,7 +53,7 @@ plain-laid digest v filling b₁ b₂ b₃ d lv lf e₁ e₂ e₃ =
 
 -- 48 bytes encrypted into as many
 pub sealed-laid : (key : Expanded) (p : Place) (k s rest x : List ℕ) → keyLength (length k) ≡ true → key ≡ expanded k → p ≡ streamStart → length s ≡ 48
-    → x ≡ paste (replicate 48 0) 0 (sealAll (resumed (p .number) (p .before) (ecbBy (key .bytes) (key .rounds))) (take 48 (s ++ rest))) 48
+    → x ≡ paste (replicate 48 0) 0 (sealAll (stepFrom p (key .bytes) (key .rounds)) (take 48 (s ++ rest))) 48
     → x ≡ verifierSealing k s
 unfolding verifierSealing
 sealed-laid key p k s rest x t q h l e =

@@ -10,7 +10,7 @@ use lib.Dec.{T}
 use lib.ListN.{length, replicate}
 use Rattle.answers.specs.Rules.{firstOf, after, roomRules, numbered, numbers, OneOf}
 use Rattle.answers.specs.Ended.{Left, left, reply}
-use Rattle.answers.proofs.Laws.{none-broken, then, stop, in-turn, both-zero, both-numbered, numbers-both, room-numbered, room-numbers, roomy}
+use Rattle.answers.proofs.Laws.{none-broken, then, stop, in-turn, both-zero, numbers-both, by-numbers, room-numbers, roomy}
 use Rattle.answers.proofs.Rows.{_and_}
 use Rattle.answers.proofs.Endings.{ended-answer, ended-done}
 use Rattle.aes.specs.Aes.{keyLength}
@@ -19,7 +19,7 @@ use Rattle.descriptor.proofs.Algorithms.{key-row, key-known, in-bytes}
 use Rattle.derivation.specs.Key.{keyBytes}
 use Rattle.derivation.proofs.Laws.{length-keyBytes}
 use Rattle.password.specs.Verdict.{textRules}
-use Rattle.password.proofs.Laws.{text-numbered, text-numbers, text-short}
+use Rattle.password.proofs.Laws.{text-numbers, text-short}
 use Rattle.writer.specs.Written.{nameLimit, infoSize, fieldRules, writeRules, infoOf, written}
 
 -- ---- what is accepted
@@ -52,18 +52,19 @@ module _ (bits name : ℕ) where
   of-fields s e k = none-broken (fieldRules bits name) tt .1 (le-ltb _ _ s and ap not (eq-eqb _ _ e) and key-row bits k .named and tt)
 
 module _ (bits : ℕ) (password : List ℕ) (name room : ℕ) where
-  early-numbered : T (numbered (fieldRules bits name ++ textRules password))
-  early-numbered = both-numbered (fieldRules bits name) (textRules password) (field-numbered bits name) (text-numbered password)
+  early-numbers : numbers (fieldRules bits name ++ textRules password) ≡ 3 ∷ 5 ∷ 8 ∷ 11 ∷ []
+  early-numbers = simp (numbers-both, field-numbers, text-numbers)
 
-  pub write-numbered : T (numbered (writeRules bits password name room))
-  unfolding writeRules
-  write-numbered = both-numbered (fieldRules bits name ++ textRules password) (roomRules room (infoSize name)) early-numbered (room-numbered room (infoSize name))
+  early-numbered : T (numbered (fieldRules bits name ++ textRules password))
+  early-numbered = by-numbers (fieldRules bits name ++ textRules password) _ early-numbers tt
 
   pub write-numbers : numbers (writeRules bits password name room) ≡ 3 ∷ 5 ∷ 8 ∷ 11 ∷ 16 ∷ []
   unfolding writeRules
   write-numbers =
-      numbers-both (fieldRules bits name ++ textRules password) (roomRules room (infoSize name))
-      ∙ rw (numbers-both (fieldRules bits name) (textRules password), field-numbers bits name, text-numbers password, room-numbers room (infoSize name))
+      numbers-both (fieldRules bits name ++ textRules password) (roomRules room (infoSize name)) ∙ rw (early-numbers, room-numbers room (infoSize name))
+
+  pub write-numbered : T (numbered (writeRules bits password name room))
+  write-numbered = by-numbers (writeRules bits password name room) _ write-numbers tt
 
   -- what is laid out decides, and after it the text and the room
   pub by-fields : (firstOf (fieldRules bits name) ≡ 0 → ⊥) → firstOf (writeRules bits password name room) ≡ firstOf (fieldRules bits name)

@@ -3,46 +3,42 @@ use mathlib.Core.Path.{_≡_, sym, ap, ap₂, subst⁻¹, _∙_}
 use Prim.Native.Nat.{_≤_, _<_}
 use native.Mathlib.Omega.{arith}
 use borrow.Author.Needs.{needs}
-use Rattle.answers.specs.Rules.{firstOf, after}
-use Rattle.answers.proofs.Laws.{after-zero}
+use Rattle.answers.specs.Rules.{firstOf}
 use Rattle.aes.specs.Aes.{expanded}
 use Rattle.aes.specs.declared.Expanded.{Expanded}
 use Rattle.blocks.proofs.Aes.{expanded-rounds}
 use Rattle.descriptor.specs.Info.{described}
 use Rattle.descriptor.specs.declared.Descriptor.{Descriptor}
 use Rattle.descriptor.specs.declared.Parsed.{Parsed}
-use Rattle.descriptor.proofs.Laws.{Admitted, parsed-answer, parsed-fields, well-formed}
+use Rattle.descriptor.proofs.Laws.{Admitted, parsed-fields, well-formed}
 use Rattle.password.specs.Lock.{lockOf}
 use Rattle.password.specs.Verifier.{verifierOpening, matches}
 use Rattle.password.specs.Verdict as Verdict
-use Rattle.password.proofs.Laws.{key-short, key-fits, Matched, text-short, early-in-turn, by-early, by-verifier, done}
+use Rattle.password.proofs.Laws.{key-short, key-fits, Matched, text-short, early-zero, early-parsed, by-early, by-verifier, done}
 use Rattle.password.proofs.unlock.Statement.{statement}
 use Rattle.password.proofs.unlock.Tie as tie
 
 -- what is answered before anything is hashed
-early : (c : tie.After-then) → let a = c .before .before .before .before .before .args in
-    c .then .result ≡ firstOf (Verdict.earlyRules (lockOf (a .info .now) (a .password .now)))
+early : (c : tie.After-early-answer) → let a = c .before .before .before .before .args in
+    c .early-answer .result ≡ firstOf (Verdict.earlyRules (lockOf (a .info .now) (a .password .now)))
 early c =
-    let p = c .before .before in
-    let a = p .before .before .before .args in
-    c .then .ensures ∙ ap₂ after (ap (λ (x : Parsed). x .answer) (p .parse .ensures) ∙ parsed-answer _) (c .before .text-answer .ensures)
-    ∙ sym (early-in-turn (lockOf (a .info .now) (a .password .now)))
+    let a = c .before .before .before .before .args in
+    c .early-answer .ensures ∙ ap (λ (x : Parsed). Verdict.earlyOf x (a .password .now)) (c .before .parse .ensures)
+    ∙ sym (early-parsed (lockOf (a .info .now) (a .password .now)))
 
-passed : (c : tie.Else1) → let a = c .before .before .before .before .before .before .args in
+passed : (c : tie.Else1) → let a = c .before .before .before .before .before .args in
     firstOf (Verdict.earlyRules (lockOf (a .info .now) (a .password .now))) ≡ 0
 passed c = sym (early (c .before)) ∙ c .if1 .left
 
-both : (c : tie.Else1) → let a = c .before .before .before .before .before .before .args in
+both : (c : tie.Else1) → let a = c .before .before .before .before .before .args in
     Admitted (a .info .now) × (firstOf (Verdict.textRules (a .password .now)) ≡ 0)
-both c =
-    let a = c .before .before .before .before .before .before .args in
-    after-zero _ _ (sym (early-in-turn (lockOf (a .info .now) (a .password .now))) ∙ passed c)
+both c = early-zero _ (passed c)
 
-admitted : (c : tie.Else1) → Admitted (c .before .before .before .before .before .before .args .info .now)
+admitted : (c : tie.Else1) → Admitted (c .before .before .before .before .before .args .info .now)
 admitted c = both c .0
 
-fields : (c : tie.Else1) → c .before .before .before .parse .result .fields ≡ described (c .before .before .before .before .before .before .args .info .now)
-fields c = ap (λ (p : Parsed). p .fields) (c .before .before .before .parse .ensures) ∙ parsed-fields _ (admitted c)
+fields : (c : tie.Else1) → c .before .before .parse .result .fields ≡ described (c .before .before .before .before .before .args .info .now)
+fields c = ap (λ (p : Parsed). p .fields) (c .before .before .parse .ensures) ∙ parsed-fields _ (admitted c)
 
 returns : tie.Need-returns
 returns c =
@@ -52,32 +48,32 @@ returns c =
 expanded-key-requires : tie.Need-expanded-key-requires
 expanded-key-requires c κs =
     let e = c .before .before .before in
-    let a = e .before .before .before .before .before .before .args in
+    let a = e .before .before .before .before .before .args in
     (rw (fields e) (omega (arith, key-short (described (a .info .now)) (a .password .now) (well-formed _ (admitted e)))), text-short _ .0 (both e .1))
 
 -- the expanded key is that of the descriptor and the password
-key : (c : tie.After-expanded-key) → let a = c .before .before .before .before .before .before .before .before .before .before .args in
+key : (c : tie.After-expanded-key) → let a = c .before .before .before .before .before .before .before .before .before .args in
     c .expanded-key .result ≡ expanded (Verdict.keyOf (described (a .info .now)) (a .password .now))
 unfolding Verdict.keyOf
 key c =
     let e = c .before .before .before .before in
-    c .expanded-key .ensures ∙ ap (λ (d : Descriptor). expanded (Verdict.keyOf d (e .before .before .before .before .before .before .args .password .now))) (fields e)
+    c .expanded-key .ensures ∙ ap (λ (d : Descriptor). expanded (Verdict.keyOf d (e .before .before .before .before .before .args .password .now))) (fields e)
 
 matches-requires : tie.Need-matches-requires
 matches-requires c κs =
     let k = c .before .before in
     let e = k .before .before .before .before in
-    let a = e .before .before .before .before .before .before .args in
+    let a = e .before .before .before .before .before .args in
     let d = described (a .info .now) in
     subst⁻¹ (λ (x : Expanded). (0 < x .rounds) × (x .rounds ≤ 14)) (key k) (expanded-rounds (Verdict.keyOf d (a .password .now)) (key-fits d (a .password .now) (well-formed _ (admitted e))))
 
 -- what the check says of it
-checked : (c : tie.After-matches) → let a = c .before .before .before .before .before .before .before .before .before .before .before .before .before .args in
+checked : (c : tie.After-matches) → let a = c .before .before .before .before .before .before .before .before .before .before .before .before .args in
     c .matches .result ≡ Matched (described (a .info .now)) (a .password .now)
 checked c =
     let k = c .before .before .before in
     let e = k .before .before .before .before in
-    let a = e .before .before .before .before .before .before .args in
+    let a = e .before .before .before .before .before .args in
     let d = described (a .info .now) in
     let k′ = Verdict.keyOf d (a .password .now) in
     c .matches .ensures k′ (key-fits d (a .password .now) (well-formed _ (admitted e))) (key k)
@@ -101,7 +97,6 @@ pub unlock-spec : {M : Type 1} → statement M
 unlock-spec =
     tie.close
     (tie.spec
-    (λ c κs. search needs)
     (λ c κs. search needs)
     (λ c κs. search needs)
     (λ c κs. search needs)
