@@ -3,11 +3,11 @@ use mathlib.Core.Path.{_≡_, refl, sym, ap, subst, _∙_}
 use mathlib.Core.Logic.{_⊎_, inl, inr, _↔_}
 use mathlib.Core.Bool.{Bool, true, false, cond, _&&_}
 use mathlib.Core.List.{List, [], _∷_, _++_}
-use Prim.Native.Nat.{ℕ, zero, suc, _≤_, _<_}
+use Prim.Native.Nat.{ℕ, zero, suc, _+_, _≤_, _<_}
 use native.Mathlib.Omega.{arith}
 use borrow.Author.Tests.{eqb-true, eqb-false, ltb-false, le-ltb}
 use lib.Dec.{T, ltb, eqb, ltb→lt}
-use Rattle.answers.specs.Rules.{Rule, rule, firstOf, after, roomRules, AllHold, First, numbered, testOf, numbers, OneOf}
+use Rattle.answers.specs.Rules.{Rule, rule, firstOf, after, roomRules, AllHold, First, aboveZero, numbered, testOf, numbers, OneOf}
 
 -- a test is true or false
 pub either : (b : Bool) → (b ≡ true) ⊎ (b ≡ false)
@@ -167,17 +167,22 @@ pub numbers-both : (rs ts : List Rule) → numbers (rs ++ ts) ≡ numbers rs ++ 
 numbers-both [] ts = refl
 numbers-both (r ∷ rs) ts = ap (_∷_ (r .number)) (numbers-both rs ts)
 
--- whether numbers are above 0 is seen from the numbers
-abbrev pub aboveZero : List ℕ → Bool
-aboveZero [] = true
-aboveZero (n ∷ ns) = ltb 0 n && aboveZero ns
-
-numbered-by : (rs : List Rule) → numbered rs ≡ aboveZero (numbers rs)
-numbered-by [] = refl
-numbered-by (r ∷ rs) = ap (_&&_ (ltb 0 (r .number))) (numbered-by rs)
-
+-- a list whose numbers are known: whether they are above 0 is computed
 pub by-numbers : (rs : List Rule) (ns : List ℕ) → numbers rs ≡ ns → T (aboveZero ns) → T (numbered rs)
-by-numbers rs ns e t = rw (numbered-by rs, e) t
+by-numbers rs ns e t = rw e t
+
+-- the answer is at most the sum of the numbers
+abbrev pub sum : List ℕ → ℕ
+sum [] = 0
+sum (m ∷ ms) = m + sum ms
+
+pub one-within : (ms : List ℕ) (n : ℕ) → OneOf ms n → n ≤ sum ms
+one-within [] n o = absurd o
+one-within (m ∷ ms) n (inl e) = omega (arith, e)
+one-within (m ∷ ms) n (inr o) = omega (arith, one-within ms n o)
+
+pub answer-within : (rs : List Rule) → firstOf rs ≤ sum (numbers rs)
+answer-within rs = omega (arith, one-within (0 ∷ numbers rs) (firstOf rs) (listed rs))
 
 -- ---- the rule on room
 

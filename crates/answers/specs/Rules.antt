@@ -41,11 +41,6 @@ pub record First (n : ℕ) (rs : List Rule) : Type 0 where
   pub order : rs ≡ before ++ (rule n true ∷ rest)
   pub hold : AllHold before
 
--- every number is above 0, so that answer 0 is no rule's
-abbrev pub numbered : List Rule → Bool
-numbered [] = true
-numbered (r ∷ rs) = ltb 0 (r .number) && numbered rs
-
 -- the test of the rule numbered n, false where there is none: what an accepted input satisfies is looked up by number
 abbrev pub testOf : ℕ → List Rule → Bool
 testOf n [] = false
@@ -55,6 +50,14 @@ testOf n (r ∷ rs) = cond (eqb (r .number) n) (r .broken) (testOf n rs)
 abbrev pub numbers : List Rule → List ℕ
 numbers [] = []
 numbers (r ∷ rs) = r .number ∷ numbers rs
+
+-- every number is above 0, so that answer 0 is no rule's
+abbrev pub aboveZero : List ℕ → Bool
+aboveZero [] = true
+aboveZero (n ∷ ns) = ltb 0 n && aboveZero ns
+
+abbrev pub numbered : List Rule → Bool
+numbered rs = aboveZero (numbers rs)
 
 -- n is one of the list
 abbrev pub OneOf : List ℕ → ℕ → Type 0

@@ -1,33 +1,20 @@
 -- Every number that crosses is small: an answer is one of its rules' numbers, and the rules 1 to 10 bound a descriptor's fields. Assumes
 -- nothing.
-use mathlib.Core.Logic.{inl, inr}
 use mathlib.Core.List.{List, [], _∷_}
-use Prim.Native.Nat.{ℕ, _+_, _/_, _≤_, _<_}
+use Prim.Native.Nat.{ℕ, _/_, _<_}
 use native.Mathlib.Omega.{arith}
-use Rattle.answers.specs.Rules.{Rule, firstOf, numbers, OneOf}
-use Rattle.answers.proofs.Laws.{listed}
+use Rattle.answers.specs.Rules.{Rule, firstOf, numbers}
+use Rattle.answers.proofs.Laws.{sum, one-within, answer-within}
 use Rattle.descriptor.specs.Info as Info
 use Rattle.descriptor.proofs.Algorithms.{suite-known}
 use Rattle.descriptor.proofs.Laws.{Admitted, alg-known, well-formed}
 use Rattle.crossing.specs.Crossing.{Crosses}
 
--- ---- one of a list is at most their sum
-
-abbrev pub sum : List ℕ → ℕ
-sum [] = 0
-sum (m ∷ ms) = m + sum ms
-
-pub one-within : (ms : List ℕ) (n : ℕ) → OneOf ms n → n ≤ sum ms
-one-within [] n o = absurd o
-one-within (m ∷ ms) n (inl e) = omega (arith, e)
-one-within (m ∷ ms) n (inr o) = omega (arith, one-within ms n o)
-
 -- an answer by rules with small numbers
 pub small : (rs : List Rule) → sum (numbers rs) < 65536 → firstOf rs < 65536
-small rs h = omega (arith, one-within (0 ∷ numbers rs) (firstOf rs) (listed rs))
+small rs h = omega (arith, answer-within rs)
 
--- ---- the fields of a descriptor
-
+-- the fields of a descriptor
 pub described-fits : (info : List ℕ) → Admitted info → Crosses (Info.described info)
 unfolding Info.described
 described-fits info h =

@@ -27,10 +27,10 @@ pub info-numbered : (s : List ℕ) → T (numbered (stream.infoRules s))
 unfolding stream.infoRules
 info-numbered s = tt
 
-abbrev pub info-list : List ℕ
-info-list = 1 ∷ 2 ∷ 3 ∷ 4 ∷ 5 ∷ 6 ∷ 7 ∷ 8 ∷ 9 ∷ 10 ∷ []
+abbrev pub infoList : List ℕ
+infoList = 1 ∷ 2 ∷ 3 ∷ 4 ∷ 5 ∷ 6 ∷ 7 ∷ 8 ∷ 9 ∷ 10 ∷ []
 
-pub info-numbers : (s : List ℕ) → numbers (stream.infoRules s) ≡ info-list
+pub info-numbers : (s : List ℕ) → numbers (stream.infoRules s) ≡ infoList
 unfolding stream.infoRules
 info-numbers s = refl
 

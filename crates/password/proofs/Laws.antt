@@ -16,7 +16,7 @@ use Rattle.aes.proofs.Keys.{key-lengths}
 use Rattle.descriptor.specs.Info.{infoRules, described, parsed}
 use Rattle.descriptor.specs.declared.Descriptor.{Descriptor}
 use Rattle.descriptor.specs.declared.Parsed.{Parsed}
-use Rattle.descriptor.proofs.Laws.{Admitted, WellFormed, info-numbered, info-list, info-numbers, parsed-answer, parsed-fields}
+use Rattle.descriptor.proofs.Laws.{Admitted, WellFormed, info-numbered, infoList, info-numbers, parsed-answer, parsed-fields}
 use Rattle.derivation.specs.Key.{keyBytes}
 use Rattle.derivation.proofs.Laws.{length-keyBytes, keyBytes-bytes}
 use Rattle.password.specs.Lock.{Lock, lockOf}
@@ -57,20 +57,20 @@ pub text-short : (p : List ℕ) → (firstOf (Verdict.textRules p) ≡ 0) ↔ (l
 unfolding Verdict.textRules
 text-short p = (λ h. ltb-false _ _ (none-broken (Verdict.textRules p) tt .0 h .0), λ h. none-broken (Verdict.textRules p) tt .1 (le-ltb _ _ h, tt))
 
-abbrev early-list : List ℕ
-early-list = info-list ++ 11 ∷ []
+abbrev earlyList : List ℕ
+earlyList = infoList ++ 11 ∷ []
 
-early-numbers : (lock : Lock) → numbers (Verdict.earlyRules lock) ≡ early-list
+early-numbers : (lock : Lock) → numbers (Verdict.earlyRules lock) ≡ earlyList
 unfolding Verdict.earlyRules
 early-numbers lock = simp (numbers-both, info-numbers, text-numbers)
 
 early-numbered : (lock : Lock) → T (numbered (Verdict.earlyRules lock))
 early-numbered lock = by-numbers (Verdict.earlyRules lock) _ (early-numbers lock) tt
 
-abbrev pub verdict-list : List ℕ
-verdict-list = early-list ++ 12 ∷ []
+abbrev pub verdictList : List ℕ
+verdictList = earlyList ++ 12 ∷ []
 
-pub verdict-numbers : (lock : Lock) → numbers (Verdict.verdictRules lock) ≡ verdict-list
+pub verdict-numbers : (lock : Lock) → numbers (Verdict.verdictRules lock) ≡ verdictList
 unfolding Verdict.verdictRules Verdict.verifierRules
 verdict-numbers lock = simp (numbers-both, early-numbers)
 

@@ -16,7 +16,7 @@ use Rattle.answers.proofs.Laws.{in-turn, after-none, both-zero, numbers-both, b
 use Rattle.answers.proofs.Endings.{ended-answer, ended-refused, ended-done}
 use Rattle.password.specs.Lock.{Lock}
 use Rattle.password.specs.Verdict.{judged, verdictRules}
-use Rattle.password.proofs.Laws.{verdict-numbered, verdict-list, verdict-numbers}
+use Rattle.password.proofs.Laws.{verdict-numbered, verdictList, verdict-numbers}
 use Rattle.lengths.specs.Lengths.{streamSize, packageLimit, fillingFor, rounded, allowed, sealedSize}
 use Rattle.lengths.proofs.Fillings.{filling-most, rounded-whole, filling-allowed, allowed-rounded}
 use Rattle.sheet.specs.Frame.{Pair, pair, streamOf, pairOf, Lawful}
@@ -28,7 +28,7 @@ use Rattle.sheet.proofs.Keyed.{length-sealed, length-opened}
 
 module _ (lock : Lock) where
   module _ (s out : List ℕ) where
-    pub open-numbers : numbers (openRules lock s (length out)) ≡ verdict-list ++ 13 ∷ 14 ∷ 15 ∷ 16 ∷ []
+    pub open-numbers : numbers (openRules lock s (length out)) ≡ verdictList ++ 13 ∷ 14 ∷ 15 ∷ 16 ∷ []
     unfolding openRules
     open-numbers = numbers-both (verdictRules lock) (streamRules s (length out)) ∙ rw (verdict-numbers lock, stream-numbers s (length out))
 
@@ -68,7 +68,7 @@ module _ (lock : Lock) where
     open-zero h = open-holds (sym open-answer ∙ h)
 
   module _ («package» filling : List ℕ) (extra : Bool) (out : List ℕ) where
-    pub seal-numbers : numbers (sealRules lock extra (length «package») (length out)) ≡ verdict-list ++ 14 ∷ 16 ∷ []
+    pub seal-numbers : numbers (sealRules lock extra (length «package») (length out)) ≡ verdictList ++ 14 ∷ 16 ∷ []
     unfolding sealRules
     seal-numbers =
         numbers-both (verdictRules lock) (packageRules extra (length «package») (length out))
