@@ -73,11 +73,9 @@ void baseline_sha1(const u8 *m, size n, u8 *out)
     put(out + 16, s.e);
 }
 
-/* ---- AES by columns, tables and expanded keys lent: the words of a column's four bytes, each moved to its row, and the key's */
+/* ---- AES by columns, tables and expanded keys lent: the words of a column's four bytes, each out of its row's table, and the key's */
 
 struct block { u8 b[16]; };
-
-static u32 up(u32 x, unsigned bytes) { return x << 8 * bytes | x >> (32 - 8 * bytes); }
 
 static u32 word(const u8 *s) { return s[0] | (u32)s[1] << 8 | (u32)s[2] << 16 | (u32)s[3] << 24; }
 
@@ -115,17 +113,37 @@ static struct block inner_round(const u32 *words, const u8 *key, struct block s)
     struct block t;
     for (size c = 0; c < 16; c += 4) {
         const u8 *b = s.b + c;
-        u32 sum = word(key + c) ^ words[b[0]] ^ up(words[b[1]], 1) ^ up(words[b[2]], 2) ^ up(words[b[3]], 3);
+        u32 sum = word(key + c) ^ words[b[0]] ^ words[256 + b[1]] ^ words[512 + b[2]] ^ words[768 + b[3]];
         for (size j = 0; j < 4; j++) t.b[c + j] = (u8)(sum >> 8 * j);
     }
     return t;
 }
 
+/* the rounds between the first key and the last round, two a turn */
+static struct block rounds_there(const u32 *words, const u8 *w, size rounds, struct block s)
+{
+    size r = 1;
+    for (; r + 1 < rounds; r += 2) {
+        s = inner_round(words, w + 16 * r, shifted(s));
+        s = inner_round(words, w + 16 * (r + 1), shifted(s));
+    }
+    return r < rounds ? inner_round(words, w + 16 * r, shifted(s)) : s;
+}
+
+static struct block rounds_back(const u32 *words, const u8 *mixed, size rounds, struct block s)
+{
+    size r = rounds - 1;
+    for (; r > 1; r -= 2) {
+        s = inner_round(words, mixed + 16 * r, unshifted(s));
+        s = inner_round(words, mixed + 16 * (r - 1), unshifted(s));
+    }
+    return r > 0 ? inner_round(words, mixed + 16 * r, unshifted(s)) : s;
+}
+
 void baseline_encrypt(const u8 *restrict w, size rounds, const u8 *restrict table, const u32 *restrict words, struct block *restrict buf, size n)
 {
     for (struct block *at = buf; at < buf + n / 16; at++) {
-        struct block s = add_key(w, *at);
-        for (size r = 1; r < rounds; r++) s = inner_round(words, w + 16 * r, shifted(s));
+        struct block s = rounds_there(words, w, rounds, add_key(w, *at));
         *at = add_key(w + 16 * rounds, shifted(substituted(table, s)));
     }
 }
@@ -135,8 +153,7 @@ void baseline_decrypt(const u8 *restrict w, const u8 *restrict mixed, size round
                       struct block *restrict buf, size n)
 {
     for (struct block *at = buf; at < buf + n / 16; at++) {
-        struct block s = add_key(w + 16 * rounds, *at);
-        for (size r = rounds - 1; r > 0; r--) s = inner_round(words, mixed + 16 * r, unshifted(s));
+        struct block s = rounds_back(words, mixed, rounds, add_key(w + 16 * rounds, *at));
         *at = add_key(w, substituted(table, unshifted(s)));
     }
 }

@@ -72,7 +72,7 @@ static void hashing(const char *call, size_t n, int turns, double per, work *our
 /* ---- AES over out, in place; the key is expanded once a buffer, C's beforehand */
 
 static unsigned char key[32], expanded[240], mixed[240], there[256], back[256];
-static uint32_t words_there[256], words_back[256];
+static uint32_t words_there[1024], words_back[1024];
 static size_t key_size, rounds;
 
 /* a product in the field */
@@ -110,6 +110,12 @@ static uint32_t share(const unsigned char *p, unsigned char y)
     return times(y, p[0]) | (uint32_t)times(y, p[1]) << 8 | (uint32_t)times(y, p[2]) << 16 | (uint32_t)times(y, p[3]) << 24;
 }
 
+/* four tables one behind the other: in table k the words moved up by k bytes */
+static void set_rows(uint32_t *words)
+{
+    for (int i = 256; i < 1024; i++) words[i] = words[i - 256] << 8 | words[i - 256] >> 24;
+}
+
 /* the substitution, by the field: powers of 3 beside powers of its inverse */
 static void set_tables(void)
 {
@@ -124,6 +130,8 @@ static void set_tables(void)
         words_there[x] = share((unsigned char[]){2, 1, 1, 3}, there[x]);
         words_back[x] = share((unsigned char[]){14, 9, 13, 11}, back[x]);
     }
+    set_rows(words_there);
+    set_rows(words_back);
 }
 
 static uint64_t encrypt_ours(const unsigned char *unused, size_t n, unsigned char *s)

@@ -1,3 +1,3 @@
--- `Tables`: words laid by way of a substitution table. `Keys`: round key after round key, mixed.
+-- `Tables`: words laid by way of a substitution table, and looked up. `Keys`: round key after round key, mixed.
 mod Tables
 mod Keys

@@ -1,7 +1,7 @@
 // AES for streams: the cipher of FIPS 197 5.1 and the inverse cipher of 5.3, a column of a round at a time.
 //
-// A byte that is looked up finds its substitution already multiplied by the four factors of the matrix, as a word: the four words of a
-// column, each moved to its byte's row, sum to the column, and the round key's word is added before the sum is taken apart into bytes.
+// A byte that is looked up finds its substitution already multiplied by the four factors of the matrix, as a word, in the table of its
+// row: the four words of a column sum to the column, and the round key's word is added before the sum is taken apart into bytes.
 // For the inverse cipher the order of InvMixColumns and AddRoundKey is turned round, so its round keys go through InvMixColumns first
 // (5.3.5, the equivalent inverse cipher).
 //
@@ -29,7 +29,6 @@ use aes_rounds::inv_mix_columns;
 use aes_rounds::inv_shift_rows;
 use aes_rounds::shift_rows;
 use aes_rounds::sub_bytes;
-use rounds::round;
 pub use words::forward;
 pub use words::inverse;
 
@@ -53,20 +52,14 @@ pub fn cipher(
     w: &[u8; 240],
     rounds: usize,
     table: &[u8; 256],
-    words: &[u32; 256],
+    words: &[u32; 1024],
     block: [u8; 16],
 ) -> [u8; 16]
     requires { ⌜ (0 < rounds) × (rounds ≤ 14) × (length (now w) ≡ 240) ⌝ }
     requires { ⌜ (now table ≡ Tables.sbox) × Words.Forward (now words) ⌝ }
     ensures { λ r. ⌜ r ≡ Cipher.cipher (Cipher.roundKey (now (w .entry))) rounds block ⌝ }
 {
-    let mut s = add_round_key(w, 0, block);
-    let mut n = 1;
-    while n < rounds {
-        let t = round(words, w, n, shift_rows(s));
-        s = t;
-        n += 1;
-    }
+    let s = rounds::cipher_rounds(words, w, rounds, add_round_key(w, 0, block));
     add_round_key(w, rounds, shift_rows(sub_bytes(table, s)))
 }
 
@@ -76,19 +69,13 @@ pub fn inv_cipher(
     mixed: &[u8; 240],
     rounds: usize,
     table: &[u8; 256],
-    words: &[u32; 256],
+    words: &[u32; 1024],
     block: [u8; 16],
 ) -> [u8; 16]
     requires { ⌜ (0 < rounds) × (rounds ≤ 14) × (length (now w) ≡ 240) × (length (now mixed) ≡ 240) ⌝ }
     requires { ⌜ (now mixed ≡ Cipher.invMixColumns (now w)) × (now table ≡ Tables.invSbox) × Words.Inverse (now words) ⌝ }
     ensures { λ r. ⌜ r ≡ Cipher.invCipher (Cipher.roundKey (now (w .entry))) rounds block ⌝ }
 {
-    let mut s = add_round_key(w, rounds, block);
-    let mut n = rounds - 1;
-    while 0 < n {
-        let t = round(words, mixed, n, inv_shift_rows(s));
-        s = t;
-        n -= 1;
-    }
+    let s = rounds::inv_cipher_rounds(words, mixed, rounds, add_round_key(w, rounds, block));
     add_round_key(w, 0, sub_bytes(table, inv_shift_rows(s)))
 }

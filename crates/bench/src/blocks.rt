@@ -13,7 +13,7 @@ fn put(s: &mut [u8], at: usize, b: [u8; 16])
     octets::copy(&b, 0, 16, s, at);
 }
 
-pub fn encrypt(w: &[u8; 240], rounds: usize, table: &[u8; 256], words: &[u32; 256], s: &mut [u8])
+pub fn encrypt(w: &[u8; 240], rounds: usize, table: &[u8; 256], words: &[u32; 1024], s: &mut [u8])
     requires { ⌜ (0 < rounds) × (rounds ≤ 14) × (length (now w) ≡ 240) × (now table ≡ sbox) × Forward (now words) ⌝ }
 {
     let n = s.len() / 16;
@@ -30,7 +30,7 @@ pub fn decrypt(
     mixed: &[u8; 240],
     rounds: usize,
     table: &[u8; 256],
-    words: &[u32; 256],
+    words: &[u32; 1024],
     s: &mut [u8],
 )
     requires { ⌜ (0 < rounds) × (rounds ≤ 14) × (length (now w) ≡ 240) × (length (now mixed) ≡ 240) ⌝ }

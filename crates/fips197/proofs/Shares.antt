@@ -3,14 +3,14 @@
 use mathlib.Core.Path.{_≡_, refl, ap, _∙_}
 use mathlib.Core.Bool.{Bool, _&&_}
 use mathlib.Core.List.{List, [], _∷_, map}
-use Prim.Native.Nat.{ℕ, _≤_, _<_}
+use Prim.Native.Nat.{ℕ, _^_, _≤_, _<_}
 use native.Mathlib.Omega.{arith}
 use lib.Dec.{T, eqb, eqb→eq}
 use lib.ListN.{length, getD}
 use Rattle.answers.proofs.Laws.{both}
 use Rattle.octets.specs.Octets.{Bytes, le, leBytes}
 use Rattle.octets.proofs.Below.{nil-bytes, cons-below}
-use Rattle.octets.proofs.Numbers.{leBytes-le}
+use Rattle.octets.proofs.Numbers.{le-lt, leBytes-le}
 use Rattle.fips197.specs.Field.{xor, double, mul}
 use Rattle.fips197.specs.Cipher.{tabulate, row, columns, addRoundKey}
 use Rattle.fips197.specs.Products.{entry, laid, share, Laid, Shares, moved, movedWord, columnSum}
@@ -67,6 +67,11 @@ times p q r t x = mul p x ∷ mul q x ∷ mul r x ∷ mul t x ∷ []
 times-bytes : (p q r t x : ℕ) → x < 256 → Bytes (times p q r t x)
 times-bytes p q r t x h =
     cons-below (mul-byte p x h) (cons-below (mul-byte q x h) (cons-below (mul-byte r x h) (cons-below (mul-byte t x h) nil-bytes)))
+
+-- a share is a word
+pub share-word : (p q r t x : ℕ) → x < 256 → share p q r t x < 2 ^ 32
+unfolding share
+share-word p q r t x h = le-lt (times p t r q x) (times-bytes p t r q x h)
 
 row-turned : (p q r t a b c d : ℕ) → row p q r t a b c d ≡ row q r t p b c d a
 unfolding row

@@ -72,6 +72,11 @@ rotated k v h l =
     ap₂ (λ (m j : ℕ). bitOr (v * 2 ^ (8 * k) % 2 ^ m) (v / 2 ^ j)) whole width ∙ turn (8 * k) (8 * n) v within
     ∙ rw (bits n, bits k, mul-comm (v % 256 ^ n) (256 ^ k)) (sym number) ∙ sym (ap le (moved-parts k v h))
 
+-- to row 0 a word is not moved
+pub unmoved : (v : ℕ) → v < 2 ^ 32 → movedWord 0 v ≡ v
+unfolding movedWord moved leBytes
+unmoved v l = le-leBytes 4 v l
+
 -- ---- sums of what is read
 
 -- the bytes of a sum are the sums of the bytes
