@@ -66,7 +66,7 @@ public class ByPoi {
     static void contest(String call, int bits, int size, Callable<?> work) throws Exception {
         var threads = ManagementFactory.getThreadMXBean();
         long best = Long.MAX_VALUE;
-        for (int rounds = size < LARGEST ? 9 : 3; rounds > 0; rounds--) {
+        for (int rounds = size < LARGEST ? 9 : 7; rounds > 0; rounds--) {
             long start = threads.getCurrentThreadCpuTime();
             work.call();
             best = Math.min(best, threads.getCurrentThreadCpuTime() - start);

@@ -6,13 +6,16 @@ from importlib.metadata import version
 from msoffcrypto.method.ecma376_standard import ECMA376Standard
 
 LARGEST, PASSWORD = 16 << 20, "password"
+ECB = ctypes.c_uint64(1)
 UNITS = PASSWORD.encode("utf-16-le")
 folder, library = pathlib.Path(sys.argv[1]), ctypes.CDLL(sys.argv[2])
 package = (folder / "package").read_bytes()
 
-def ours(function, *slices, out=None):
-    """A call of the library; each slice goes as a pointer and a count of elements."""
-    words = [word for s in slices for word in (s, ctypes.c_size_t(len(s) // 2 if s is UNITS else len(s)))]
+def ours(function, *given, out=None):
+    """A call of the library; each slice goes as a pointer and a count of elements, the scheme as it is."""
+    words = []
+    for s in given:
+        words += [s] if s is ECB else [s, ctypes.c_size_t(len(s) // 2 if s is UNITS else len(s))]
     words += [out, ctypes.c_size_t(len(out))] if out else []
     function.restype = ctypes.c_uint64
     return function(*words)
@@ -34,7 +37,7 @@ def must(same, what):
 def contest(call, bits, size, **contestants):
     """Each one's best processor time of several rounds, in which they take turns."""
     best = dict.fromkeys(contestants, float("inf"))
-    for _ in range(7 if size < LARGEST else 3):
+    for _ in range(7):
         for who, work in contestants.items():
             start = time.process_time_ns()
             work()
@@ -43,13 +46,13 @@ def contest(call, bits, size, **contestants):
         print("msoffcrypto-tool", call, bits, size, who.replace("_", "-"), f"{figure:.1f}", "ns", sep="\t", flush=True)
 
 def verdicts(bits, info):
-    calls = {"ours": lambda: ours(library.ropeshadow_verdict, info, UNITS), "msoffcrypto_tool": lambda: key_of(info)}
+    calls = {"ours": lambda: ours(library.ropeshadow_verdict, info, UNITS, ECB), "msoffcrypto_tool": lambda: key_of(info)}
     must(calls["ours"]() == 0 and calls["msoffcrypto_tool"]() is not None, f"verdict {bits}")
     contest("verdict", bits, 0, **calls)
 
 def openings(bits, info, stream, size):
     out = ctypes.create_string_buffer(len(stream))
-    calls = {"ours": lambda: ours(library.ropeshadow_open, info, UNITS, stream, out=out), "msoffcrypto_tool": lambda: opened(info, stream)}
+    calls = {"ours": lambda: ours(library.ropeshadow_open, info, UNITS, ECB, stream, out=out), "msoffcrypto_tool": lambda: opened(info, stream)}
     must(calls["ours"]() == 65536 * size and out.raw[:size] == calls["msoffcrypto_tool"]() == package[:size], f"open {bits} {size}")
     contest("open", bits, size, **calls)
 

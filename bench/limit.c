@@ -32,10 +32,10 @@ static uint64_t timed(int call, size_t bits, size_t n, double best[CALLS])
     uint64_t number = 0;
     double from = now();
     switch (call) {
-    case VERDICT: number = ropeshadow_verdict(info, INFO_SIZE, password, UNITS); break;
-    case SEAL: number = ropeshadow_seal(info, INFO_SIZE, password, UNITS, package, n, 0, 0, 0, stream, sealed_size(n)); break;
+    case VERDICT: number = ropeshadow_verdict(info, INFO_SIZE, password, UNITS, ROPESHADOW_ECB); break;
+    case SEAL: number = ropeshadow_seal(info, INFO_SIZE, password, UNITS, ROPESHADOW_ECB, package, n, 0, 0, 0, stream, sealed_size(n)); break;
     case ENCRYPT: number = bench_encrypt(key, bits / 8, package, n); break;
-    case OPEN: number = ropeshadow_open(info, INFO_SIZE, password, UNITS, stream, sealed_size(n), package, n); break;
+    case OPEN: number = ropeshadow_open(info, INFO_SIZE, password, UNITS, ROPESHADOW_ECB, stream, sealed_size(n), package, n); break;
     case DECRYPT: number = bench_decrypt(key, bits / 8, stream + 8, n); break;
     }
     double t = now() - from;
@@ -97,7 +97,7 @@ int main(void)
     for (size_t bits = 128; bits <= 256; bits += 64) {
         lay_info(info, bits);
         openssl_key(info, key);
-        beside_bare(bits, 16 << 20, 3);
+        beside_bare(bits, 16 << 20, 7);
         fill(package, BUFFER);
         beside_bare(bits, LARGEST, 2);
         if (bits == 128) one_more(bits);

@@ -1,5 +1,6 @@
 /* The library's work by OpenSSL, and the descriptors that both are given. SHA-1 is OpenSSL's low-level hash, AES whichever cipher is
-   named: block by block, or EVP. Only what `make bench` times is done: a descriptor and a stream are taken to be well-formed. */
+   named: by the low-level functions, or EVP. Only what `make bench` times is done: a descriptor and a stream are taken to be well-formed,
+   and a chained package has whole blocks and no extra one. */
 #ifndef BENCH_OPENSSL_H
 #define BENCH_OPENSSL_H
 
@@ -12,9 +13,17 @@ typedef void cipher(int encrypting, const unsigned char *key, size_t key_size, c
 cipher by_block; /* AES_encrypt and AES_decrypt: table look-ups, on any processor */
 cipher by_evp;   /* with the processor's AES instructions, where it has them */
 
-/* From the program's first argument, "portable" or "instructions": the cipher, and the contestant's name. */
+/* The same under AES-CBC in segments of 4,096 bytes, each from the front of SHA-1(salt, its number). */
+typedef void chain(int encrypting, const unsigned char *key, size_t key_size, const unsigned char salt[16], const unsigned char *in, size_t n,
+                   unsigned char *out);
+
+chain chained_by_block; /* AES_cbc_encrypt: table look-ups, no AES instructions on any processor */
+chain chained_by_evp;
+
+/* From the program's first argument, "portable" or "instructions": the ciphers, and the contestant's name. */
 struct manner {
     cipher *aes;
+    chain *chained;
     const char *name;
 };
 struct manner manner_of(int argc, char **argv);
@@ -30,8 +39,10 @@ void openssl_key(const unsigned char *info, unsigned char key[40]);
 
 uint64_t openssl_sha1(const unsigned char *message, size_t n, unsigned char digest[20]);
 uint64_t openssl_verdict(cipher *aes, const unsigned char *info);
-uint64_t openssl_open(cipher *aes, const unsigned char *info, const unsigned char *stream, unsigned char *out, size_t room);
-uint64_t openssl_seal(cipher *aes, const unsigned char *info, const unsigned char *package, size_t n, const unsigned char filling[16],
-                      unsigned char *out, size_t room);
+
+/* Under ROPESHADOW_ECB or ROPESHADOW_CHAINED. */
+uint64_t openssl_open(struct manner by, uint64_t scheme, const unsigned char *info, const unsigned char *stream, unsigned char *out, size_t room);
+uint64_t openssl_seal(struct manner by, uint64_t scheme, const unsigned char *info, const unsigned char *package, size_t n,
+                      const unsigned char filling[16], unsigned char *out, size_t room);
 
 #endif

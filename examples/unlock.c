@@ -1,5 +1,7 @@
 /* unlock BOOK.xlsx [PASSWORD-FILE]: opens a locked workbook beside itself, as BOOK.opened.xlsx. Without a file the password is asked
- * for on the terminal. The exit status is 0 for an opened workbook, 1 for a refusal, 2 where something could not be read or written.
+ * for on the terminal. The package is taken to be in ECB, as Office locks it; one that was chained takes ROPESHADOW_CHAINED below,
+ * since nothing in the workbook tells the two apart. The exit status is 0 for an opened workbook, 1 for a refusal, 2 where something
+ * could not be read or written.
  *
  *     cc -Iinclude $(pkg-config --cflags libgsf-1) -o unlock examples/unlock.c target/lib/libropeshadow.a $(pkg-config --libs libgsf-1)
  */
@@ -75,7 +77,7 @@ int main(int count, char **argv) {
 
     guint8 *out = g_try_malloc(stream_size + 1);
     if (out == NULL) stop("EncryptedPackage", "too large for the memory");
-    uint64_t word = ropeshadow_open(info, info_size, password, (size_t)units, stream, stream_size, out, stream_size);
+    uint64_t word = ropeshadow_open(info, info_size, password, (size_t)units, ROPESHADOW_ECB, stream, stream_size, out, stream_size);
     unsigned answer = ROPESHADOW_ANSWER(word);
     if (answer != ROPESHADOW_DONE) {
         fprintf(stderr, "unlock: %s: %s (answer %u)\n", argv[1], words(answer), answer);

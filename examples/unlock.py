@@ -4,23 +4,26 @@ asked for on the terminal. Needs python3-olefile and target/lib/libropeshadow.so
 import ctypes, getpass, os, pathlib, sys, tempfile
 import olefile
 
+# nothing in a workbook tells which of the two its package was encrypted by; Office writes the first
+ECB, CHAINED = 1, 2
 WORDS = {0: "opened", 2: "not locked by Standard encryption", 11: "the password has more than 255 units", 12: "wrong password",
          13: "EncryptedPackage does not have the length that it states", 14: "the package is larger than 256 MiB",
-         15: "EncryptedPackage does not have the length that it states"}
+         15: "EncryptedPackage does not have the length that it states", 19: "no such scheme"}
 
 def library():
     here = pathlib.Path(__file__).resolve().parent.parent / "target/lib/libropeshadow.so"
     lib = ctypes.CDLL(os.environ.get("ROPESHADOW", str(here)))
     # a slice is a pointer and a count; a bytes object is never null, even when empty
-    lib.ropeshadow_open.argtypes = [ctypes.c_char_p, ctypes.c_size_t] * 3 + [ctypes.c_void_p, ctypes.c_size_t]
+    given = [ctypes.c_char_p, ctypes.c_size_t]
+    lib.ropeshadow_open.argtypes = given * 2 + [ctypes.c_uint64] + given + [ctypes.c_void_p, ctypes.c_size_t]
     lib.ropeshadow_open.restype = ctypes.c_uint64
     return lib
 
-def opened(info, password, stream):
-    """The answer, and the package where it is 0."""
+def opened(info, password, stream, scheme=ECB):
+    """The answer, and the package where it is 0: other bytes where the package was encrypted by the other scheme."""
     units = password.encode("utf-16-le")
     out = ctypes.create_string_buffer(len(stream) + 1)
-    word = library().ropeshadow_open(info, len(info), units, len(units) // 2, stream, len(stream), out, len(stream))
+    word = library().ropeshadow_open(info, len(info), units, len(units) // 2, scheme, stream, len(stream), out, len(stream))
     answer, size = word % 65536, word // 65536
     return answer, ctypes.string_at(out, size)
 

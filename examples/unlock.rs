@@ -6,10 +6,13 @@ use std::{env, fs, io, process};
 #[link(name = "ropeshadow", kind = "static")]
 extern "C" {
     fn ropeshadow_open(
-        info: *const u8, info_size: usize, password: *const u16, units: usize,
+        info: *const u8, info_size: usize, password: *const u16, units: usize, scheme: u64,
         stream: *const u8, stream_size: usize, out: *mut u8, room: usize,
     ) -> u64;
 }
+
+/// How Office encrypts a package. Nothing in the two streams tells it from the other scheme, 2, chained.
+const ECB: u64 = 1;
 
 /// The package, or the number of the first broken rule.
 fn open(info: &[u8], password: &str, stream: &[u8]) -> Result<Vec<u8>, u64> {
@@ -18,7 +21,7 @@ fn open(info: &[u8], password: &str, stream: &[u8]) -> Result<Vec<u8>, u64> {
     // SAFETY: each pointer is of a slice with the count beside it, none is null, and `out` overlaps nothing.
     let word = unsafe {
         ropeshadow_open(
-            info.as_ptr(), info.len(), units.as_ptr(), units.len(),
+            info.as_ptr(), info.len(), units.as_ptr(), units.len(), ECB,
             stream.as_ptr(), stream.len(), out.as_mut_ptr(), out.len(),
         )
     };

@@ -57,7 +57,16 @@ enum {
     ROPESHADOW_STREAM_LENGTH = 15,      /* what follows StreamSize is not StreamSize rounded up to a multiple of 16, nor, where
                                          * StreamSize is above 0 and a multiple of 4,096, that and an extra block of 16 bytes */
     ROPESHADOW_ROOM = 16,               /* `out` is too short */
-    ROPESHADOW_MESSAGE_LONG = 18        /* a message to hash has more than 65,536 bytes */
+    ROPESHADOW_MESSAGE_LONG = 18,       /* a message to hash has more than 65,536 bytes */
+    ROPESHADOW_SCHEME = 19              /* the scheme is neither 1 nor 2; tested after 10 and before 11 */
+};
+
+/* The schemes: how the blocks of a package are encrypted. Nothing in the file tells which one it was, so the caller does. A package that
+ * was sealed under one scheme and is opened under the other answers 0, with wrong bytes. The password is judged the same way under
+ * both. Any other number is answer 19, of all 64 bits: 2^32 + 1 is not 1. */
+enum {
+    ROPESHADOW_ECB = 1,    /* each block by itself: what Microsoft Office, LibreOffice and Apache POI write */
+    ROPESHADOW_CHAINED = 2 /* AES-CBC in segments of 4,096 bytes, each from a start of its own; an extra block belongs to the last */
 };
 
 /* SHA-1 of a message (FIPS 180-4) to out. Answers 0, 18. */
@@ -69,31 +78,32 @@ uint64_t ropeshadow_aes_decrypt(const uint8_t *key, size_t key_size, uint64_t bl
 
 /* The descriptor of an EncryptionInfo stream to out, numbers low byte first: major (at 0, 2 bytes), minor (2, 2), AlgID (4, 4), key
  * size in bytes (8, 4), place of the provider's name in EncryptionInfo (12, 4), its length in bytes (16, 4), salt (20, 16),
- * EncryptedVerifier (36, 16), EncryptedVerifierHash (52, 32). Answers 0 to 10. */
-uint64_t ropeshadow_parse(const uint8_t *info, size_t info_size, uint8_t out[84]);
+ * EncryptedVerifier (36, 16), EncryptedVerifierHash (52, 32), and the scheme as it was given (84, 4). Answers 0 to 10, 19. */
+uint64_t ropeshadow_parse(const uint8_t *info, size_t info_size, uint64_t scheme, uint8_t out[88]);
 
-/* Whether the password is the one that the document was locked with. Answers 0 to 12. */
-uint64_t ropeshadow_verdict(const uint8_t *info, size_t info_size, const uint16_t *password, size_t units);
+/* Whether the password is the one that the document was locked with. Answers 0 to 12, 19. */
+uint64_t ropeshadow_verdict(const uint8_t *info, size_t info_size, const uint16_t *password, size_t units, uint64_t scheme);
 
 /* The package of an EncryptedPackage stream to the front of out, zeros after it to the end of out. The size is the number of
- * package bytes; a room of stream_size bytes is always enough. Answers 0 to 16. */
-uint64_t ropeshadow_open(const uint8_t *info, size_t info_size, const uint16_t *password, size_t units,
+ * package bytes; a room of stream_size bytes is always enough. Under the scheme that the package was not sealed with, the bytes are
+ * wrong and the answer is 0 all the same. Answers 0 to 16, 19. */
+uint64_t ropeshadow_open(const uint8_t *info, size_t info_size, const uint16_t *password, size_t units, uint64_t scheme,
                          const uint8_t *stream, size_t stream_size, uint8_t *out, size_t room);
 
 /* A package as an EncryptedPackage stream under an existing EncryptionInfo to the front of out, zeros after it to the end of out.
  * The last block is filled with the first of the sixteen filling bytes, which should be random. Where package_size is above 0 and a
  * multiple of 4,096 nothing is left to fill, and some producers write an extra block there: `extra` 0 leaves it out, and any other number
  * adds it, made of all sixteen filling bytes. At other sizes `extra` counts for nothing. The size is that of the whole stream; a room of
- * package_size + 24 bytes is always enough. Answers 0 to 12, 14, 16. */
-uint64_t ropeshadow_seal(const uint8_t *info, size_t info_size, const uint16_t *password, size_t units,
+ * package_size + 24 bytes is always enough. Answers 0 to 12, 14, 16, 19. */
+uint64_t ropeshadow_seal(const uint8_t *info, size_t info_size, const uint16_t *password, size_t units, uint64_t scheme,
                          const uint8_t *package, size_t package_size, uint64_t filling_low, uint64_t filling_high,
                          uint64_t extra, uint8_t *out, size_t room);
 
 /* A new EncryptionInfo stream, version 3.2, for a key of 128, 192 or 256 bits and a password to the front of out, zeros after it to
  * the end of out. The name is that of the provider, as bytes of UTF-16LE, and is written as given: it usually ends with a zero unit,
  * which the caller gives. The filling that follows the verifier's hash is the first twelve of its sixteen bytes. Salt, verifier and
- * filling should be random, new ones for each stream. The size is that of the whole stream; a room of name_size + 116 bytes is
- * enough. Answers 0, 3, 5, 8, 11, 16. */
+ * filling should be random, new ones for each stream. Packages of either scheme can be sealed under it. The size is that of the whole
+ * stream; a room of name_size + 116 bytes is enough. Answers 0, 3, 5, 8, 11, 16. */
 uint64_t ropeshadow_write_info(uint64_t bits, const uint16_t *password, size_t units, const uint8_t *name, size_t name_size,
                                uint64_t salt_low, uint64_t salt_high, uint64_t verifier_low, uint64_t verifier_high,
                                uint64_t filling_low, uint64_t filling_high, uint8_t *out, size_t room);

@@ -47,6 +47,7 @@ static size_t most;
 #define AS(x) ((uint64_t)(uintptr_t)(x))
 #define INFO(i) AS(info[i]), INFO_SIZE
 #define PASSWORD AS(password), UNITS
+#define SCHEME(i) ((i) < 3 ? ROPESHADOW_ECB : ROPESHADOW_CHAINED)
 #define CALL(f, answer, ...) (name_of = #f, call((void *)(uintptr_t)(f), answer, (uint64_t[ARGUMENTS]){__VA_ARGS__}))
 
 /* One call, which must be answered so; the most that any took is kept. */
@@ -77,7 +78,7 @@ static void tell(void)
 
 int main(void)
 {
-    static unsigned char message[65536], name[NAME], info[3][INFO_SIZE], package[PACKAGE], stream[ROOM], opened[ROOM], fixed[84];
+    static unsigned char message[65536], name[NAME], info[3][INFO_SIZE], package[PACKAGE], stream[ROOM], opened[ROOM], fixed[88];
     static const unsigned char key[32];
     static uint16_t password[UNITS];
     const uint64_t any = 0x0123456789abcdef;
@@ -93,17 +94,18 @@ int main(void)
     for (uint64_t i = 0; i < 3; i++)
         CALL(ropeshadow_write_info, 0, 128 + 64 * i, PASSWORD, AS(name), NAME, any, any, any, any, any, any, INFO(i));
     tell();
-    CALL(ropeshadow_parse, 0, INFO(0), AS(fixed));
+    CALL(ropeshadow_parse, 0, INFO(0), ROPESHADOW_ECB, AS(fixed));
     tell();
-    for (int i = 0; i < 3; i++) CALL(ropeshadow_verdict, 0, INFO(i), PASSWORD);
-    CALL(ropeshadow_verdict, 12, INFO(0), AS(password), UNITS - 1);
+    for (int i = 0; i < 3; i++) CALL(ropeshadow_verdict, 0, INFO(i), PASSWORD, ROPESHADOW_ECB);
+    CALL(ropeshadow_verdict, 12, INFO(0), AS(password), UNITS - 1, ROPESHADOW_ECB);
     tell();
-    /* a package with an extra block, and two whose last block is filled */
-    for (uint64_t i = 0; i < 3; i++) CALL(ropeshadow_seal, 0, INFO(i), PASSWORD, AS(package), PACKAGE - i, any, any, 1, AS(stream), ROOM);
+    /* under each scheme a package with an extra block, and two whose last block is filled */
+    for (uint64_t i = 0; i < 6; i++)
+        CALL(ropeshadow_seal, 0, INFO(i % 3), PASSWORD, SCHEME(i), AS(package), PACKAGE - i % 3, any, any, 1, AS(stream), ROOM);
     tell();
-    for (uint64_t i = 0; i < 3; i++) {
-        uint64_t sealed = ropeshadow_seal(info[i], INFO_SIZE, password, UNITS, package, PACKAGE - i, any, any, 1, stream, ROOM);
-        CALL(ropeshadow_open, 0, INFO(i), PASSWORD, AS(stream), ROPESHADOW_SIZE(sealed), AS(opened), ROOM);
+    for (uint64_t i = 0; i < 6; i++) {
+        uint64_t sealed = ropeshadow_seal(info[i % 3], INFO_SIZE, password, UNITS, SCHEME(i), package, PACKAGE - i % 3, any, any, 1, stream, ROOM);
+        CALL(ropeshadow_open, 0, INFO(i % 3), PASSWORD, SCHEME(i), AS(stream), ROPESHADOW_SIZE(sealed), AS(opened), ROOM);
     }
     tell();
     return 0;

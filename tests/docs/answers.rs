@@ -1,8 +1,12 @@
-//! The header's answers beside the constants of crates/answers, both ways.
+//! The header's answers beside the constants of crates/answers, both ways, and its schemes beside those of crates/descriptor.
 use crate::{repo::Repo, Report};
 
 const HEADER: &str = "include/ropeshadow.h";
 const CRATE: &str = "crates/answers/src/lib.rt";
+const SCHEMES: &str = "crates/descriptor/src/lib.rt";
+
+/// How the header's comment on its schemes begins; the answers stand before it.
+const SCHEMES_BEGIN: &str = "/* The schemes:";
 
 /// Answers of the program alone, which the library never gives (01, no. 17).
 const PROGRAM_ALONE: [&str; 1] = ["FILES"];
@@ -29,9 +33,9 @@ fn read(text: &str, before: &str) -> Vec<Answer> {
 fn alike(these: &[Answer], of: &str, those: &[Answer], other: &str, report: &mut Report) {
     for a in these.iter().filter(|a| !PROGRAM_ALONE.contains(&a.name.as_str())) {
         match those.iter().find(|b| b.name == a.name) {
-            None => report.fault(of, a.line, format!("answer {} = {} is not in {other}", a.name, a.number)),
+            None => report.fault(of, a.line, format!("{} = {} is not in {other}", a.name, a.number)),
             Some(b) if b.number != a.number => {
-                report.fault(of, a.line, format!("answer {} = {}, in {other} it is {}", a.name, a.number, b.number))
+                report.fault(of, a.line, format!("{} = {}, in {other} it is {}", a.name, a.number, b.number))
             }
             _ => {}
         }
@@ -39,10 +43,13 @@ fn alike(these: &[Answer], of: &str, those: &[Answer], other: &str, report: &mut
 }
 
 pub fn check(repo: &Repo, report: &mut Report) -> usize {
-    let header = read(repo.text(HEADER), "ROPESHADOW_");
+    let mut header = read(repo.text(HEADER), "ROPESHADOW_");
+    let end = repo.text(HEADER).lines().position(|line| line.starts_with(SCHEMES_BEGIN)).unwrap_or(usize::MAX);
+    let schemes = header.split_off(header.partition_point(|a| a.line <= end));
     let constants = read(repo.text(CRATE), "pub const ");
     alike(&header, HEADER, &constants, CRATE, report);
     alike(&constants, CRATE, &header, HEADER, report);
+    alike(&schemes, HEADER, &read(repo.text(SCHEMES), "pub const "), SCHEMES, report);
     for a in header.iter().filter(|a| PROGRAM_ALONE.contains(&a.name.as_str())) {
         report.fault(HEADER, a.line, format!("answer {} is the program's alone", a.name));
     }

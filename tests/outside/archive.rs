@@ -8,11 +8,11 @@ extern "C" {
     fn ropeshadow_sha1(message: *const u8, size: usize, out: *mut u8) -> u64;
     fn ropeshadow_aes_encrypt(key: *const u8, key_size: usize, low: u64, high: u64, out: *mut u8) -> u64;
     fn ropeshadow_aes_decrypt(key: *const u8, key_size: usize, low: u64, high: u64, out: *mut u8) -> u64;
-    fn ropeshadow_parse(info: *const u8, info_size: usize, out: *mut u8) -> u64;
-    fn ropeshadow_verdict(info: *const u8, info_size: usize, password: *const u16, units: usize) -> u64;
-    fn ropeshadow_open(info: *const u8, info_size: usize, password: *const u16, units: usize,
+    fn ropeshadow_parse(info: *const u8, info_size: usize, scheme: u64, out: *mut u8) -> u64;
+    fn ropeshadow_verdict(info: *const u8, info_size: usize, password: *const u16, units: usize, scheme: u64) -> u64;
+    fn ropeshadow_open(info: *const u8, info_size: usize, password: *const u16, units: usize, scheme: u64,
                        stream: *const u8, stream_size: usize, out: *mut u8, room: usize) -> u64;
-    fn ropeshadow_seal(info: *const u8, info_size: usize, password: *const u16, units: usize,
+    fn ropeshadow_seal(info: *const u8, info_size: usize, password: *const u16, units: usize, scheme: u64,
                        package: *const u8, package_size: usize, low: u64, high: u64, extra: u64, out: *mut u8, room: usize) -> u64;
     fn ropeshadow_write_info(bits: u64, password: *const u16, units: usize, name: *const u8, name_size: usize,
                              salt_low: u64, salt_high: u64, verifier_low: u64, verifier_high: u64,
@@ -36,10 +36,10 @@ pub enum Call {
     Sha1 { message: Vec<u8> },
     Encrypt { key: Vec<u8>, block: [u8; 16] },
     Decrypt { key: Vec<u8>, block: [u8; 16] },
-    Parse { info: Vec<u8> },
-    Verdict { info: Vec<u8>, password: Vec<u16> },
-    Open { info: Vec<u8>, password: Vec<u16>, stream: Vec<u8>, room: usize },
-    Seal { info: Vec<u8>, password: Vec<u16>, package: Vec<u8>, filling: [u8; 16], extra: u64, room: usize },
+    Parse { info: Vec<u8>, scheme: u64 },
+    Verdict { info: Vec<u8>, password: Vec<u16>, scheme: u64 },
+    Open { info: Vec<u8>, password: Vec<u16>, scheme: u64, stream: Vec<u8>, room: usize },
+    Seal { info: Vec<u8>, password: Vec<u16>, scheme: u64, package: Vec<u8>, filling: [u8; 16], extra: u64, room: usize },
     Write(Writing),
 }
 
@@ -69,7 +69,7 @@ impl Call {
         match self {
             Call::Sha1 { .. } => 20,
             Call::Encrypt { .. } | Call::Decrypt { .. } => 16,
-            Call::Parse { .. } => 84,
+            Call::Parse { .. } => 88,
             Call::Verdict { .. } => 0,
             Call::Open { room, .. } | Call::Seal { room, .. } | Call::Write(Writing { room, .. }) => *room,
         }
@@ -88,7 +88,7 @@ impl Call {
     /// Whether a call that is answered so has derived a key.
     pub fn derives(&self, answer: u16) -> bool {
         match self {
-            Call::Verdict { .. } | Call::Open { .. } | Call::Seal { .. } => !(1..=11).contains(&answer),
+            Call::Verdict { .. } | Call::Open { .. } | Call::Seal { .. } => !(1..=11).contains(&answer) && answer != 19,
             Call::Write(_) => answer == 0,
             _ => false,
         }
@@ -109,14 +109,14 @@ impl Call {
                     let (low, high) = halves(block);
                     ropeshadow_aes_decrypt(k.as_ptr(), k.len(), low, high, out)
                 }
-                Call::Parse { info: i } => ropeshadow_parse(i.as_ptr(), i.len(), out),
-                Call::Verdict { info: i, password: p } => ropeshadow_verdict(i.as_ptr(), i.len(), p.as_ptr(), p.len()),
-                Call::Open { info: i, password: p, stream: s, room } => {
-                    ropeshadow_open(i.as_ptr(), i.len(), p.as_ptr(), p.len(), s.as_ptr(), s.len(), out, *room)
+                Call::Parse { info: i, scheme } => ropeshadow_parse(i.as_ptr(), i.len(), *scheme, out),
+                Call::Verdict { info: i, password: p, scheme } => ropeshadow_verdict(i.as_ptr(), i.len(), p.as_ptr(), p.len(), *scheme),
+                Call::Open { info: i, password: p, scheme, stream: s, room } => {
+                    ropeshadow_open(i.as_ptr(), i.len(), p.as_ptr(), p.len(), *scheme, s.as_ptr(), s.len(), out, *room)
                 }
-                Call::Seal { info: i, password: p, package: s, filling, extra, room } => {
+                Call::Seal { info: i, password: p, scheme, package: s, filling, extra, room } => {
                     let (low, high) = halves(filling);
-                    ropeshadow_seal(i.as_ptr(), i.len(), p.as_ptr(), p.len(), s.as_ptr(), s.len(), low, high, *extra, out, *room)
+                    ropeshadow_seal(i.as_ptr(), i.len(), p.as_ptr(), p.len(), *scheme, s.as_ptr(), s.len(), low, high, *extra, out, *room)
                 }
                 Call::Write(Writing { bits, password: p, name: n, salt, verifier, filling, room }) => {
                     let [s, v, f] = [salt, verifier, filling].map(halves);
@@ -142,11 +142,11 @@ impl Call {
             Call::Sha1 { message } => sha1::hashed(message).map(|hash| hash.to_vec()),
             Call::Encrypt { key, block } => Aes::new(key).map(|aes| aes.encrypt(*block).to_vec()),
             Call::Decrypt { key, block } => Aes::new(key).map(|aes| aes.decrypt(*block).to_vec()),
-            Call::Parse { info } => descriptor::parse(info).map(|d| d.bytes()),
-            Call::Verdict { info, password } => key::unlock(info, password).map(|_| vec![]),
-            Call::Open { info, password, stream, room } => package::open(info, password, stream, *room),
-            Call::Seal { info, password, package, filling, extra, room } => {
-                package::seal(info, password, package, *filling, *extra != 0, *room)
+            Call::Parse { info, scheme } => descriptor::parse(info, *scheme).map(|d| d.bytes()),
+            Call::Verdict { info, password, scheme } => key::unlock(info, password, *scheme).map(|_| vec![]),
+            Call::Open { info, password, scheme, stream, room } => package::open(info, password, *scheme, stream, *room),
+            Call::Seal { info, password, scheme, package, filling, extra, room } => {
+                package::seal(info, password, *scheme, package, *filling, *extra != 0, *room)
             }
             Call::Write(w) => {
                 let filling = *w.filling.first_chunk().unwrap();

@@ -1,8 +1,8 @@
 /* libFuzzer on the outside interface. Each buffer is an allocation of exactly its size, so that the sanitizer sees any byte read or
  * written beside it, and `out` is held to what the header says: untouched on a refusal, zeros after the written part.
  *
- * An input's first byte chooses the function, its next ones the lengths. Two of the functions take a published descriptor with its
- * password (000, section 8), so that what lies behind the right password is reached by every stream. Sealing so takes the filling and
+ * An input's first byte chooses the function, its next ones the lengths, and one the scheme. Two of the functions take a published
+ * descriptor with its password (000, section 8), so that what lies behind the right password is reached by every stream. Sealing so takes the filling and
  * the choice of an extra block from the lengths that it has no other use for. The writer's name stands where others have
  * EncryptionInfo, and its seven numbers at the end.
  *
@@ -17,7 +17,8 @@
 
 enum { PARSE, OPEN, OPEN_UNLOCKED, SEAL_UNLOCKED, WRITE, FUNCTIONS };
 static const char *const NAMES[FUNCTIONS] = {"parse", "open", "open, right password", "seal, right password", "write"};
-static unsigned long seen[FUNCTIONS][19];
+enum { ANSWERS = 20, FRONT = 7 };
+static unsigned long seen[FUNCTIONS][ANSWERS];
 
 static const uint16_t PASSWORD[] = {'p', 'a', 's', 's', 'w', 'o', 'r', 'd'};
 static const uint8_t INFO[116] = {
@@ -31,7 +32,7 @@ static const uint8_t INFO[116] = {
 static void report(void) {
     for (int f = 0; f < FUNCTIONS; f++) {
         fprintf(stderr, "answers of %s:", NAMES[f]);
-        for (int a = 0; a < 19; a++)
+        for (int a = 0; a < ANSWERS; a++)
             if (seen[f][a] != 0) fprintf(stderr, " %d: %lu", a, seen[f][a]);
         fputc('\n', stderr);
     }
@@ -52,10 +53,20 @@ static const uint8_t *taken(const uint8_t **data, size_t *left, size_t most, siz
     return at;
 }
 
-static void judge(int f, uint64_t word, const uint8_t *out, size_t room, size_t written) {
+/* The scheme of a byte: one of the two, or for the last few bytes a number that is none. */
+static uint64_t scheme_of(uint8_t byte) {
+    static const uint64_t others[8] = {0, 3, 4, 256, (1ull << 32) + 1, (1ull << 32) + 2, (1ull << 63) + 1, UINT64_MAX};
+    return byte >= 0xf8 ? others[byte - 0xf8] : byte % 2 == 0 ? ROPESHADOW_ECB : ROPESHADOW_CHAINED;
+}
+
+static int named(uint64_t scheme) { return scheme == ROPESHADOW_ECB || scheme == ROPESHADOW_CHAINED; }
+
+static void judge(int f, uint64_t word, uint64_t scheme, const uint8_t *out, size_t room, size_t written) {
     unsigned answer = ROPESHADOW_ANSWER(word);
-    if (answer > 18) abort();
+    if (answer >= ANSWERS) abort();
     seen[f][answer]++;
+    /* a scheme that is none ends what the descriptor has not ended */
+    if (named(scheme) || f == WRITE ? answer == ROPESHADOW_SCHEME : answer != ROPESHADOW_SCHEME && (answer < 1 || answer > 10)) abort();
     if (answer != ROPESHADOW_DONE && ROPESHADOW_SIZE(word) != 0) abort();
     if (written > room) abort();
     for (size_t i = answer == ROPESHADOW_DONE ? written : 0; i < room; i++)
@@ -66,12 +77,12 @@ static void judge(int f, uint64_t word, const uint8_t *out, size_t room, size_t 
 static uint64_t written(const uint16_t *password, size_t units, const uint8_t *name, size_t name_size, const uint8_t *data, size_t left,
                         uint8_t *out, size_t room) {
     uint64_t n[7] = {0};
-    uint8_t fields[84];
+    uint8_t fields[88];
     memcpy(n, data, left < sizeof n ? left : sizeof n);
     uint64_t word = ropeshadow_write_info(n[0], password, units, name, name_size, n[1], n[2], n[3], n[4], n[5], n[6], out, room);
     switch (ROPESHADOW_ANSWER(word)) {
     case ROPESHADOW_DONE:
-        if (ROPESHADOW_SIZE(word) != name_size + 116 || ropeshadow_parse(out, name_size + 116, fields) != ROPESHADOW_DONE) abort();
+        if (ROPESHADOW_SIZE(word) != name_size + 116 || ropeshadow_parse(out, name_size + 116, ROPESHADOW_ECB, fields) != ROPESHADOW_DONE) abort();
         return word;
     case ROPESHADOW_ROOM:
         if (room >= name_size + 116) abort();
@@ -87,11 +98,11 @@ static uint64_t written(const uint16_t *password, size_t units, const uint8_t *n
 }
 
 /* Seals a package; the size, and the room that is asked for, are those of the blocks and of StreamSize. */
-static uint64_t sealed(const uint8_t *info, size_t info_size, const uint16_t *password, size_t units, const uint8_t *package, size_t size,
-                       uint64_t low, uint64_t high, uint64_t extra, uint8_t *out, size_t room) {
+static uint64_t sealed(const uint8_t *info, size_t info_size, const uint16_t *password, size_t units, uint64_t scheme,
+                       const uint8_t *package, size_t size, uint64_t low, uint64_t high, uint64_t extra, uint8_t *out, size_t room) {
     size_t whole = 8 + (size + 15) / 16 * 16 + (extra != 0 && size != 0 && size % 4096 == 0 ? 16 : 0);
-    uint64_t word = ropeshadow_seal(info, info_size, password, units, package, size, low, high, extra, out, room);
-    if (word != (room < whole ? (uint64_t)ROPESHADOW_ROOM : 65536 * (uint64_t)whole)) abort();
+    uint64_t word = ropeshadow_seal(info, info_size, password, units, scheme, package, size, low, high, extra, out, room);
+    if (named(scheme) && word != (room < whole ? (uint64_t)ROPESHADOW_ROOM : 65536 * (uint64_t)whole)) abort();
     return word;
 }
 
@@ -99,15 +110,16 @@ int LLVMFuzzerTestOneInput(const uint8_t *data, size_t left) {
     static int first = 1;
     if (first) atexit(report);
     first = 0;
-    if (left < 6) return 0;
+    if (left < FRONT) return 0;
 #ifdef ONLY
     int f = ONLY;
 #else
     int f = (data[0] & 0x7f) % FUNCTIONS;
 #endif
     size_t units = data[1] + (data[0] & 0x80 ? 128u : 0u), info_size = data[2] + 256u * data[3];
-    size_t room = f == PARSE ? 84 : data[4] + 256u * data[5];
-    data += 6, left -= 6;
+    size_t room = f == PARSE ? 88 : data[4] + 256u * data[5];
+    uint64_t scheme = scheme_of(data[6]);
+    data += FRONT, left -= FRONT;
 
     size_t password_size = sizeof PASSWORD, size;
     const uint8_t *from = (const uint8_t *)PASSWORD;
@@ -120,12 +132,12 @@ int LLVMFuzzerTestOneInput(const uint8_t *data, size_t left) {
     memset(out, 0xa5, room == 0 ? 1 : room);
 
     uint64_t word;
-    if (f == PARSE) word = ropeshadow_parse(info, size, out);
+    if (f == PARSE) word = ropeshadow_parse(info, size, scheme, out);
     else if (f == SEAL_UNLOCKED)
-        word = sealed(info, size, password, password_size / 2, stream, left, units, info_size % 256, info_size / 256, out, room);
+        word = sealed(info, size, password, password_size / 2, scheme, stream, left, units, info_size % 256, info_size / 256, out, room);
     else if (f == WRITE) word = written(password, password_size / 2, info, size, stream, left, out, room);
-    else word = ropeshadow_open(info, size, password, password_size / 2, stream, left, out, room);
-    judge(f, word, out, room, f == PARSE ? 84 : ROPESHADOW_SIZE(word));
+    else word = ropeshadow_open(info, size, password, password_size / 2, scheme, stream, left, out, room);
+    judge(f, word, scheme, out, room, f == PARSE ? 88 : ROPESHADOW_SIZE(word));
     free(password), free(info), free(stream), free(out);
     return 0;
 }

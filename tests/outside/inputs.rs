@@ -6,6 +6,7 @@ use second::{
     key::keyed,
     package::{LIMIT, sealed},
     samples::units,
+    schemes::{SCHEMES, Scheme},
     writer::{encryption_verifier, locked},
 };
 
@@ -41,35 +42,51 @@ impl Random {
     pub fn choice(&mut self) -> u64 {
         [0, 1, self.next() << 32, self.next()][self.below(4)]
     }
+
+    pub fn scheme(&mut self) -> Scheme {
+        SCHEMES[self.below(2)]
+    }
+
+    /// The number of a scheme, mostly; else one beside them, one that a narrower number would take for one of them, or any.
+    pub fn scheme_number(&mut self) -> u64 {
+        let others = [0, 3, (1 << 32) + 1, (1 << 32) + 2, u64::MAX, self.next()];
+        if self.below(6) == 0 { others[self.below(6)] } else { self.scheme().number() }
+    }
 }
 
 /// A descriptor with the password that it is for.
 pub struct Lock {
     pub info: Vec<u8>,
     pub password: Vec<u16>,
+    pub salt: [u8; 16],
     pub aes: Aes,
 }
 
 impl Lock {
-    pub fn verdict(&self) -> Call {
-        Call::Verdict { info: self.info.clone(), password: self.password.clone() }
+    pub fn verdict(&self, scheme: u64) -> Call {
+        Call::Verdict { info: self.info.clone(), password: self.password.clone(), scheme }
     }
 
-    pub fn open(&self, stream: &[u8], room: usize) -> Call {
-        Call::Open { info: self.info.clone(), password: self.password.clone(), stream: stream.to_vec(), room }
+    pub fn open(&self, scheme: u64, stream: &[u8], room: usize) -> Call {
+        Call::Open { info: self.info.clone(), password: self.password.clone(), scheme, stream: stream.to_vec(), room }
     }
 
-    pub fn seal(&self, package: &[u8], filling: [u8; 16], extra: u64, room: usize) -> Call {
+    pub fn seal(&self, scheme: u64, package: &[u8], filling: [u8; 16], extra: u64, room: usize) -> Call {
         let (info, password, package) = (self.info.clone(), self.password.clone(), package.to_vec());
-        Call::Seal { info, password, package, filling, extra, room }
+        Call::Seal { info, password, scheme, package, filling, extra, room }
+    }
+
+    /// The stream of a package by the second implementation.
+    pub fn sealed(&self, scheme: Scheme, package: &[u8], filling: [u8; 16], extra: u64) -> Vec<u8> {
+        sealed(&self.aes, &self.salt, scheme, package, filling, extra != 0)
     }
 
     /// That the archive opens a stream to this package.
-    pub fn opens_to(&self, stream: &[u8], package: &[u8]) -> Result<(), String> {
-        if self.open(stream, package.len()).filled()? == package {
+    pub fn opens_to(&self, scheme: Scheme, stream: &[u8], package: &[u8]) -> Result<(), String> {
+        if self.open(scheme.number(), stream, package.len()).filled()? == package {
             Ok(())
         } else {
-            Err(format!("another package than was sealed, of {} bytes", package.len()))
+            Err(format!("another package than was sealed, {scheme:?}, of {} bytes", package.len()))
         }
     }
 }
@@ -89,7 +106,7 @@ pub fn lock(r: &mut Random, algorithm: Algorithm, password: Vec<u16>) -> Lock {
     let aes = keyed(algorithm, &salt, &password);
     let verifier = locked(&aes, salt, r.sixteen(), *r.bytes(12).first_chunk().unwrap());
     let major = 2 + r.below(3) as u16;
-    Lock { info: info_of(r, major, 140, 0, algorithm, &verifier), password, aes }
+    Lock { info: info_of(r, major, 140, 0, algorithm, &verifier), password, salt, aes }
 }
 
 /// A call, with the answer where it is known without the second implementation.
@@ -113,11 +130,15 @@ const VALUES: [u32; 44] = [
     4_095, 4_096, 4_097, 0x660d, 0x660e, 0x660f, 0x6610, 0x6611, 0x6801, 0x8003, 0x8004, 0x8005, u32::MAX,
 ];
 
-/// What is broken, or left as it is, for an opening: the descriptor, the password, the stream and the room.
+/// The rules of opening, in their order.
+const RULES: [u16; 17] = [1, 2, 3, 4, 5, 6, 7, 8, 9, 10, 19, 11, 12, 13, 14, 15, 16];
+
+/// What is broken, or left as it is, for an opening: the descriptor, the password, the scheme, the stream and the room.
 #[derive(Clone)]
 struct Opening {
     info: Vec<u8>,
     password: Vec<u16>,
+    scheme: u64,
     stream: Vec<u8>,
     room: usize,
 }
@@ -145,6 +166,7 @@ fn broken(o: &mut Opening, rule: u16) {
         14 => put(&mut o.stream, 4, 1),
         15 => o.stream.push(0),
         16 => o.room -= 1,
+        19 => o.scheme += 1 << 32,
         _ => panic!("no rule of opening"),
     }
 }
@@ -172,6 +194,7 @@ impl Cases {
         cases.streams();
         cases.random();
         cases.extra_blocks();
+        cases.schemes();
         cases.writes();
         cases
     }
@@ -221,7 +244,8 @@ impl Cases {
                     for extra in [0, 1, 2, header - 32] {
                         let verifier = encryption_verifier(&self.r.bytes(16), &self.r.bytes(16), &self.r.bytes(32));
                         let info = info_of(&mut self.r, major, header, extra, algorithm, &verifier);
-                        self.add("descriptor, each shape", Call::Parse { info });
+                        let scheme = self.r.scheme_number();
+                        self.add("descriptor, each shape", Call::Parse { info, scheme });
                     }
                 }
             }
@@ -234,7 +258,7 @@ impl Cases {
         let package = self.r.bytes(33);
         for size in 0..3 {
             let (info, password) = (self.locks[size].info.clone(), self.locks[size].password.clone());
-            let stream = sealed(&self.locks[size].aes, &package, filling, false);
+            let sealed = SCHEMES.map(|scheme| self.locks[size].sealed(scheme, &package, filling, 0));
             for at in 0..info.len() {
                 let turned = |bits: u8| {
                     let mut info = info.clone();
@@ -242,14 +266,16 @@ impl Cases {
                     info
                 };
                 for bit in 0..8 {
-                    self.add("descriptor, each bit turned", Call::Parse { info: turned(1 << bit) });
+                    let scheme = self.r.scheme_number();
+                    self.add("descriptor, each bit turned", Call::Parse { info: turned(1 << bit), scheme });
                 }
                 let info = turned(1 << self.r.below(8));
-                let (password, stream, package) = (password.clone(), stream.clone(), package.clone());
+                let (password, scheme, package) = (password.clone(), self.r.scheme(), package.clone());
+                let (stream, scheme) = (sealed[scheme as usize - 1].clone(), scheme.number());
                 let call = match (at + size) % 3 {
-                    0 => Call::Verdict { info, password },
-                    1 => Call::Open { info, password, stream, room: 40 },
-                    _ => Call::Seal { info, password, package, filling, extra: self.r.choice(), room: 60 },
+                    0 => Call::Verdict { info, password, scheme },
+                    1 => Call::Open { info, password, scheme, stream, room: 40 },
+                    _ => Call::Seal { info, password, scheme, package, filling, extra: self.r.choice(), room: 60 },
                 };
                 self.add("each byte of the descriptor changed", call);
             }
@@ -262,9 +288,9 @@ impl Cases {
             let (info, password) = (self.locks[size].info.clone(), self.locks[size].password.clone());
             let longer = [&info[..], &self.r.bytes(4)].concat();
             for n in 0..=longer.len() {
-                let info = longer[..n].to_vec();
-                self.add("descriptor, each length", Call::Parse { info: info.clone() });
-                self.add("verdict, each length", Call::Verdict { info, password: password.clone() });
+                let (info, scheme) = (longer[..n].to_vec(), self.r.scheme_number());
+                self.add("descriptor, each length", Call::Parse { info: info.clone(), scheme });
+                self.add("verdict, each length", Call::Verdict { info, password: password.clone(), scheme });
             }
         }
     }
@@ -274,47 +300,54 @@ impl Cases {
         for size in 0..3 {
             for place in NUMBERS {
                 for value in VALUES {
-                    let mut info = self.locks[size].info.clone();
+                    let (mut info, scheme) = (self.locks[size].info.clone(), self.r.scheme_number());
                     put(&mut info, place, value);
                     if place == 8 && value <= 8_192 {
                         let mut resized = info.clone();
                         resized.resize(value as usize + 84, 0);
-                        self.add("descriptor, numbers at limits", Call::Parse { info: resized });
+                        self.add("descriptor, numbers at limits", Call::Parse { info: resized, scheme });
                     }
-                    self.add("descriptor, numbers at limits", Call::Parse { info });
+                    self.add("descriptor, numbers at limits", Call::Parse { info, scheme });
                 }
             }
         }
     }
 
-    /// Two rules broken at once: the lower number is the answer.
+    /// Two rules broken at once, under each scheme: the earlier one is the answer.
     fn pairs(&mut self) {
-        for size in 0..3 {
+        for (size, scheme) in (0..3).flat_map(|size| SCHEMES.map(|scheme| (size, scheme))) {
             let package = self.r.bytes(17);
             let filling = self.r.sixteen();
             let l = &self.locks[size];
-            let stream = sealed(&l.aes, &package, filling, false);
-            let valid = Opening { info: l.info.clone(), password: l.password.clone(), stream, room: 17 };
-            for first in 1..=16 {
-                for second in first..=16 {
+            let stream = l.sealed(scheme, &package, filling, 0);
+            let valid = Opening { info: l.info.clone(), password: l.password.clone(), scheme: scheme.number(), stream, room: 17 };
+            for (place, &first) in RULES.iter().enumerate() {
+                for &second in &RULES[place..] {
                     let mut o = valid.clone();
                     // from the last rule to the first, since a stream or a descriptor that is cut has no later places
                     broken(&mut o, second);
                     if first != second {
                         broken(&mut o, first);
                     }
-                    if second <= 12 {
-                        let (info, password, package, extra) = (o.info.clone(), o.password.clone(), package.clone(), self.r.choice());
-                        let call = Call::Seal { info, password, package, filling, extra, room: 39 };
-                        self.known("two rules broken", call, first);
-                        let call = Call::Verdict { info: o.info.clone(), password: o.password.clone() };
-                        self.known("two rules broken", call, first);
-                    }
-                    let call = Call::Open { info: o.info, password: o.password, stream: o.stream, room: o.room };
-                    self.known("two rules broken", call, first);
+                    self.broken_calls(o, &package, filling, first, second);
                 }
             }
         }
+    }
+
+    /// The calls that judge the second of the two rules, each answered with the first.
+    fn broken_calls(&mut self, o: Opening, package: &[u8], filling: [u8; 16], first: u16, second: u16) {
+        let Opening { info, password, scheme, stream, room } = o;
+        let group = "two rules broken";
+        if second <= 10 || second == 19 {
+            self.known(group, Call::Parse { info: info.clone(), scheme }, first);
+        }
+        if second <= 12 || second == 19 {
+            self.known(group, Call::Verdict { info: info.clone(), password: password.clone(), scheme }, first);
+            let (info, password, package, extra) = (info.clone(), password.clone(), package.to_vec(), self.r.choice());
+            self.known(group, Call::Seal { info, password, scheme, package, filling, extra, room: 39 }, first);
+        }
+        self.known(group, Call::Open { info, password, scheme, stream, room }, first);
     }
 
     /// Each length of a password, the right one and one with a unit changed.
@@ -322,10 +355,11 @@ impl Cases {
         for n in 0..=257 {
             let password = self.r.units(n);
             let mut l = lock(&mut self.r, ALGORITHMS[n % 3], password);
-            self.known("password, each length", l.verdict(), if n > 255 { 11 } else { 0 });
+            let scheme = self.r.scheme().number();
+            self.known("password, each length", l.verdict(scheme), if n > 255 { 11 } else { 0 });
             if n > 0 && n % 4 == 0 && n < 256 {
                 l.password[self.r.below(n)] ^= 1 << self.r.below(16);
-                self.known("password, one unit changed", l.verdict(), 12);
+                self.known("password, one unit changed", l.verdict(scheme), 12);
             }
         }
     }
@@ -334,39 +368,48 @@ impl Cases {
     fn packages(&mut self) {
         for size in 0..3 {
             for n in (0..=100).chain(4_093..=4_099).chain(65_533..=65_539) {
-                let (package, filling, extra) = (self.r.bytes(n), self.r.sixteen(), self.r.choice());
-                let stream = sealed(&self.locks[size].aes, &package, filling, extra != 0);
-                for (room, answer) in rooms(stream.len()) {
-                    let call = self.locks[size].seal(&package, filling, extra, room);
-                    self.known("sealed, each length", call, answer);
-                }
-                for (room, answer) in rooms(n) {
-                    let call = self.locks[size].open(&stream, room);
-                    self.known("opened, each length", call, answer);
-                }
+                self.package("sealed, each length", "opened, each length", size, Scheme::Ecb, n);
             }
+            // whole segments, and what a byte or a block more or less makes of the last one
+            for n in (0..=34).chain(4_079..=4_113).chain([8_191, 8_192, 8_193, 12_288, 65_535, 65_536, 65_537]) {
+                self.package("sealed, chained", "opened, chained", size, Scheme::Chained, n);
+            }
+        }
+    }
+
+    fn package(&mut self, sealing: &'static str, opening: &'static str, size: usize, scheme: Scheme, n: usize) {
+        let (package, filling, extra) = (self.r.bytes(n), self.r.sixteen(), self.r.choice());
+        let stream = self.locks[size].sealed(scheme, &package, filling, extra);
+        for (room, answer) in rooms(stream.len()) {
+            let call = self.locks[size].seal(scheme.number(), &package, filling, extra, room);
+            self.known(sealing, call, answer);
+        }
+        for (room, answer) in rooms(n) {
+            let call = self.locks[size].open(scheme.number(), &stream, room);
+            self.known(opening, call, answer);
         }
     }
 
     /// Streams that are cut, too long, of another StreamSize, or with a byte changed.
     fn streams(&mut self) {
-        for (size, n) in [(0, 0), (0, 33), (1, 16), (1, 79), (2, 31), (2, 48)] {
-            let (package, filling) = (self.r.bytes(n), self.r.sixteen());
-            let stream = sealed(&self.locks[size].aes, &package, filling, false);
+        for (turn, (size, n)) in [(0, 0), (0, 33), (1, 16), (1, 79), (2, 31), (2, 48)].into_iter().enumerate() {
+            let (package, filling, scheme) = (self.r.bytes(n), self.r.sixteen(), SCHEMES[turn % 2]);
+            let stream = self.locks[size].sealed(scheme, &package, filling, 0);
+            let scheme = scheme.number();
             let longer = [&stream[..], &self.r.bytes(17)].concat();
             for cut in 0..=longer.len() {
-                self.add("stream, each length", self.locks[size].open(&longer[..cut], 96));
+                self.add("stream, each length", self.locks[size].open(scheme, &longer[..cut], 96));
             }
             let around = [n as u64 + 1, (n as u64).wrapping_sub(1), n as u64 + 16, (n as u64).wrapping_sub(16)];
             let high = [8, 16, 24, 28, 29, 32, 40, 48, 56, 63].map(|shift| n as u64 + (1 << shift));
             for told in around.into_iter().chain(high).chain([LIMIT as u64, LIMIT as u64 + 1, u64::MAX]) {
                 let changed = [&told.to_le_bytes()[..], &stream[8..]].concat();
-                self.add("stream, another StreamSize", self.locks[size].open(&changed, 96));
+                self.add("stream, another StreamSize", self.locks[size].open(scheme, &changed, 96));
             }
             for at in 0..stream.len() {
                 let mut changed = stream.clone();
                 changed[at] ^= 1 << self.r.below(8);
-                self.add("stream, each byte changed", self.locks[size].open(&changed, 96));
+                self.add("stream, each byte changed", self.locks[size].open(scheme, &changed, 96));
             }
         }
     }
@@ -391,7 +434,8 @@ impl Cases {
             }
             let (n, room) = (self.r.below(400), self.r.below(600));
             let (package, filling, extra) = (self.r.bytes(n), self.r.sixteen(), self.r.choice());
-            let mut stream = sealed(&self.locks[size].aes, &package, filling, extra != 0);
+            let mut stream = self.locks[size].sealed(self.r.scheme(), &package, filling, extra);
+            let scheme = self.r.scheme_number();
             if self.r.below(4) == 0 {
                 let n = self.r.below(64);
                 stream = self.r.bytes(n);
@@ -399,9 +443,9 @@ impl Cases {
             self.add(
                 "random",
                 if turn % 2 == 0 {
-                    Call::Open { info, password, stream, room }
+                    Call::Open { info, password, scheme, stream, room }
                 } else {
-                    Call::Seal { info, password, package, filling, extra, room }
+                    Call::Seal { info, password, scheme, package, filling, extra, room }
                 },
             );
         }

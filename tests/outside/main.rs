@@ -4,11 +4,18 @@
 mod archive;
 mod extra;
 mod inputs;
+mod schemes;
 mod writes;
 
 use archive::{GUARD, parts};
 use inputs::{Case, Cases, Lock, Random, lock};
-use second::{algorithms::ALGORITHMS, package::LIMIT, samples::units};
+use second::{
+    algorithms::ALGORITHMS,
+    chaining::starting_vector,
+    package::LIMIT,
+    samples::units,
+    schemes::{SCHEMES, Scheme},
+};
 use std::{collections::BTreeMap, env, process};
 
 /// The answer of a call that comes out the same both ways, or what is wrong with it.
@@ -32,32 +39,46 @@ fn compared(case: &Case) -> Result<u16, String> {
     Ok(answer)
 }
 
+/// What is added to block i of the largest package before it is encrypted: nothing, or the cipher block before it in its segment. There is
+/// no segment after the last one, so that an extra block begins none.
+fn added(l: &Lock, scheme: Scheme, stream: &[u8], i: usize) -> [u8; 16] {
+    match scheme {
+        Scheme::Ecb => [0; 16],
+        Scheme::Chained if i % 256 == 0 && i < LIMIT / 16 => starting_vector(&l.salt, (i / 256) as u32),
+        Scheme::Chained => stream[16 * i - 8..16 * i + 8].try_into().unwrap(),
+    }
+}
+
 /// The stream of the largest package, sealed with that choice and opened. The second implementation checks every 509th block and, where
 /// there is one, the extra block.
-fn there_and_back(l: &Lock, package: &[u8], filling: [u8; 16], extra: bool) -> Result<Vec<u8>, String> {
+fn there_and_back(l: &Lock, scheme: Scheme, package: &[u8], filling: [u8; 16], extra: bool) -> Result<Vec<u8>, String> {
     let blocks = LIMIT / 16 + usize::from(extra);
-    let stream = l.seal(package, filling, u64::from(extra), 8 + 16 * blocks).filled()?;
+    let stream = l.seal(scheme.number(), package, filling, u64::from(extra), 8 + 16 * blocks).filled()?;
     let plain = |i: usize| if i < LIMIT / 16 { package[16 * i..16 * i + 16].try_into().unwrap() } else { filling };
-    let right = |i: usize| stream[8 + 16 * i..24 + 16 * i] == l.aes.encrypt(plain(i));
+    let right = |i: usize| {
+        let (plain, added) = (plain(i), added(l, scheme, &stream, i));
+        stream[8 + 16 * i..24 + 16 * i] == l.aes.encrypt(std::array::from_fn(|j| plain[j] ^ added[j]))
+    };
     if stream[..8] != (LIMIT as u64).to_le_bytes() || !(0..LIMIT / 16).step_by(509).chain(LIMIT / 16..blocks).all(right) {
-        return Err("the largest package is not sealed".to_string());
+        return Err(format!("the largest package is not sealed, {scheme:?}"));
     }
-    l.opens_to(&stream, package)?;
+    l.opens_to(scheme, &stream, package)?;
     Ok(stream)
 }
 
-/// The largest package there is, without an extra block and with it, and one byte more.
-fn largest(seed: u64) -> Result<u64, String> {
-    let mut r = Random(seed);
+/// The largest package there is under a scheme, without an extra block and with it, and one byte more.
+fn largest(seed: u64, scheme: Scheme) -> Result<u64, String> {
+    let (mut r, number) = (Random(seed), scheme.number());
     let l = lock(&mut r, ALGORITHMS[2], units("the largest"));
     let mut package: Vec<u8> = (0..LIMIT / 8).flat_map(|_| r.next().to_le_bytes()).collect();
     let filling = r.sixteen();
-    there_and_back(&l, &package, filling, false)?;
+    there_and_back(&l, scheme, &package, filling, false)?;
     // with the extra block a stream has as many bytes as one of a byte more
-    let mut longer = there_and_back(&l, &package, filling, true)?;
+    let mut longer = there_and_back(&l, scheme, &package, filling, true)?;
     longer[0] = 1;
     package.push(0);
-    for call in [l.seal(&package, filling, 0, 24), l.seal(&package, filling, 1, 24), l.open(&longer, 24)] {
+    let sealing = |extra: u64| l.seal(number, &package, filling, extra, 24);
+    for call in [sealing(0), sealing(1), l.open(number, &longer, 24)] {
         compared(&Case { group: "the largest", call, answer: Some(14) })?;
     }
     Ok(7)
@@ -108,7 +129,7 @@ impl Tally {
         for (group, count) in &self.groups {
             println!("{count:>6} {group}");
         }
-        for reply in (0..=16).chain([18]) {
+        for reply in (0..=16).chain([18, 19]) {
             if !self.answers.contains_key(&reply) {
                 self.fail(format!("no call was answered {reply}"));
             }
@@ -132,7 +153,10 @@ fn main() {
     }
     let mut tally = Tally::default();
     tally.compare(seed, &cases);
-    for followed in [largest(seed), extra::both_streams(seed), writes::taken_up(seed)] {
+    for scheme in SCHEMES {
+        tally.follow(seed, largest(seed, scheme));
+    }
+    for followed in [extra::both_streams(seed), schemes::both_ways(seed), writes::taken_up(seed)] {
         tally.follow(seed, followed);
     }
     tally.report(seed);

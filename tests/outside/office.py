@@ -7,7 +7,7 @@ import olefile
 
 sys.dont_write_bytecode = True
 import producers
-from producers import ROOT, SLICE, by_command, by_msoffcrypto, check, entry, said, sealed, streams, unlock
+from producers import NUMBER, ROOT, SLICE, by_command, by_msoffcrypto, check, entry, said, sealed, streams, unlock
 
 SOURCE = "libapache-poi-java"
 OFFICE = {"spreadsheet/58616.xlsx": "VelvetSweatshop", "poifs/protect.xlsx": "VelvetSweatshop",
@@ -69,7 +69,7 @@ def locked_documents(archive, version, folder):
 
 def parsed(info):
     """The answer of the parser."""
-    return entry("parse", *SLICE, ctypes.c_void_p)(info, len(info), ctypes.create_string_buffer(84))
+    return entry("parse", *SLICE, NUMBER, ctypes.c_void_p)(info, len(info), unlock.ECB, ctypes.create_string_buffer(88))
 
 def by_c(built, book, password):
     """What the example in C says of a document, and the package that it leaves, or None."""
@@ -116,6 +116,9 @@ def office(folder, name, password, built):
     check(f"{name}: written by Office", producer(package).startswith("Microsoft "))
     check(f"{name}: as msoffcrypto-tool opens it", package == by_msoffcrypto(info, password, stream) == by_command(folder / name, password))
     check(f"{name}: another password", unlock.opened(info, password + "?", stream) == (12, b""))
+    # nothing tells that it is not chained
+    answer_chained, other = unlock.opened(info, password, stream, unlock.CHAINED)
+    check(f"{name}: opened as chained, other bytes", answer_chained == 0 and len(other) == len(package) and not sound(other))
     text, left = by_c(built, folder / name, password)
     check(f"{name}: opened by the example in C", f"opened, {len(package)} bytes" in text and left == package)
     text, left = by_c(built, folder / name, password + "?")

@@ -68,12 +68,12 @@ def extra_block(size):
     """Whether a package of that size may have an extra block (2026-02)."""
     return size > 0 and size % 4096 == 0
 
-def sealed(info, password, package, extra=0, filling=bytes(range(1, 17))):
-    """The whole stream by the library, unless told otherwise with a filling that shows if it is looked at."""
+def sealed(info, password, package, extra=0, filling=bytes(range(1, 17)), scheme=unlock.ECB):
+    """The whole stream by the library, unless told otherwise in ECB and with a filling that shows if it is looked at."""
     units, size = password.encode("utf-16-le"), len(package)
-    seal = entry("seal", *SLICE * 3, *[NUMBER] * 3, *OUT)
+    seal = entry("seal", *SLICE * 2, NUMBER, *SLICE, *[NUMBER] * 3, *OUT)
     out = ctypes.create_string_buffer(size + 24)
-    word = seal(info, len(info), units, len(units) // 2, package, size, *struct.unpack("<2Q", filling), extra, out, size + 24)
+    word = seal(info, len(info), units, len(units) // 2, scheme, package, size, *struct.unpack("<2Q", filling), extra, out, size + 24)
     check("sealed", word == 65536 * (8 + -(-size // 16) * 16 + (16 if extra and extra_block(size) else 0)))
     return out.raw[:word // 65536]
 

@@ -9,13 +9,16 @@ def named(size, extra):
     """The descriptor with a name and opaque bytes."""
     return INFO[:8] + struct.pack("<I", 32 + size) + INFO[12:16] + struct.pack("<I", extra) + INFO[20:44] + bytes(size) + INFO[44:]
 
-def given(function, password, info, room, stream):
-    units, more = password.encode("utf-16-le"), len(password) > 255
-    return bytes([function + 128 * more, len(units) // 2 - 128 * more]) + struct.pack("<HH", len(info), room) + units + info + stream
+# the byte of each scheme, and the first of those that stand for numbers that are none
+ECB, CHAINED, OTHERS = 0, 1, 0xF8
 
-def sealing(size, extra, room):
+def given(function, password, info, room, stream, scheme=ECB):
+    units, more = password.encode("utf-16-le"), len(password) > 255
+    return bytes([function + 128 * more, len(units) // 2 - 128 * more]) + struct.pack("<HHB", len(info), room, scheme) + units + info + stream
+
+def sealing(size, extra, room, scheme=ECB):
     """The choice of an extra block stands where others have the high byte of EncryptionInfo's length."""
-    return bytes([3, 0, 0, extra]) + struct.pack("<H", room) + bytes(size)
+    return bytes([3, 0, 0, extra]) + struct.pack("<HB", room, scheme) + bytes(size)
 
 def writing(bits, name, room, password="password"):
     return given(4, password, bytes(name), room, struct.pack("<7Q", bits, *range(6)))
@@ -32,11 +35,16 @@ def main():
         stream = struct.pack("<Q", size) + bytes(size + 16)
         seeds += [given(2, "", b"", size, stream), given(2, "", b"", size, stream + bytes(16)), given(2, "", b"", size - 1, stream)]
         seeds += [sealing(size, 0, size + 8), sealing(size, 1, size + 24), sealing(size, 128, size + 23)]
+    for size in (0, 1, 16, 4096, 4097, 4112, 8192):
+        blocks = bytes(-(-size // 16) * 16)
+        seeds += [given(2, "", b"", size, struct.pack("<Q", size) + blocks, CHAINED), sealing(size, 1, size + 24, CHAINED)]
+    for scheme in range(OTHERS, OTHERS + 8):
+        seeds += [given(0, "", INFO, 0, b"", scheme), given(2, "", b"", 16, struct.pack("<Q", 16) + bytes(16), scheme), sealing(1, 0, 24, scheme)]
     seeds += [given(1, "wrong", INFO, 16, bytes(8)), given(1, "x" * 255, INFO, 16, bytes(8)), given(2, "", b"", 64, bytes(3))]
     seeds += [writing(bits, 108, 224) for bits in (128, 192, 256, 127, 1 << 32 | 128)]
     seeds += [writing(128, name, name + 120) for name in (0, 107, 4064, 4065, 4066)]
     seeds += [writing(256, 2, 117), writing(256, 2, 118, "x" * 255), writing(256, 2, 117, "x" * 256), writing(256, 0, 116, "")]
     for n, seed in enumerate(seeds):
-        (folder / f"seed-{n:02}").write_bytes(seed)
+        (folder / f"seed-{n:03}").write_bytes(seed)
 
 main()

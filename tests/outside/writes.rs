@@ -6,6 +6,7 @@ use second::{
     descriptor::Descriptor,
     key::unlock,
     samples::units,
+    schemes::Scheme,
 };
 
 /// The writer's rules, in their order.
@@ -130,24 +131,24 @@ impl Cases {
 }
 
 /// The descriptor that a parse of what was written gives, in which the encrypted fields are those of the stream.
-fn described(w: &Writing, info: &[u8]) -> Vec<u8> {
+fn described(w: &Writing, info: &[u8], scheme: Scheme) -> Vec<u8> {
     let part = |from_end: usize| &info[info.len() - from_end..];
     let (algorithm, name_length) = (Algorithm::of_bits(w.bits).unwrap(), w.name.len() as u32);
     let (verifier, hash) = (*part(52).first_chunk().unwrap(), *part(32).first_chunk().unwrap());
-    Descriptor { major: 3, minor: 2, algorithm, name_place: 44, name_length, salt: w.salt, verifier, hash }.bytes()
+    Descriptor { major: 3, minor: 2, algorithm, name_place: 44, name_length, salt: w.salt, verifier, hash, scheme }.bytes()
 }
 
 /// Written, parsed, judged, sealed under and opened.
-fn followed(w: Writing, package: &[u8], filling: [u8; 16]) -> Result<(), String> {
-    let info = Call::Write(w.clone()).filled()?;
-    if (Call::Parse { info: info.clone() }).filled()? != described(&w, &info) {
+fn followed(w: Writing, scheme: Scheme, package: &[u8], filling: [u8; 16]) -> Result<(), String> {
+    let (info, number) = (Call::Write(w.clone()).filled()?, scheme.number());
+    if (Call::Parse { info: info.clone(), scheme: number }).filled()? != described(&w, &info, scheme) {
         return Err(format!("another descriptor than was written, of {w:02x?}"));
     }
-    let aes = unlock(&info, &w.password).map_err(|answer| format!("answer {answer} by the second implementation to {w:02x?}"))?;
-    let l = Lock { info, password: w.password, aes };
-    l.verdict().filled()?;
-    let stream = l.seal(package, filling, 0, 8 + package.len().next_multiple_of(16)).filled()?;
-    l.opens_to(&stream, package)
+    let (aes, _) = unlock(&info, &w.password, number).map_err(|answer| format!("answer {answer} by the second implementation to {w:02x?}"))?;
+    let l = Lock { info, password: w.password, salt: w.salt, aes };
+    l.verdict(number).filled()?;
+    let stream = l.seal(number, package, filling, 0, 8 + package.len().next_multiple_of(16)).filled()?;
+    l.opens_to(scheme, &stream, package)
 }
 
 /// What the archive writes is a descriptor that it opens and seals with.
@@ -158,7 +159,7 @@ pub fn taken_up(seed: u64) -> Result<u64, String> {
             for name in [0, 108, 4_064] {
                 let w = Writing { password: r.units(units), ..valid(&mut r, bits, name) };
                 let n = r.below(100);
-                followed(w, &r.bytes(n), r.sixteen())?;
+                followed(w, r.scheme(), &r.bytes(n), r.sixteen())?;
                 calls += 5;
             }
         }

@@ -1,6 +1,6 @@
-//! EncryptionInfo read from its front to its end (01, "EncryptionInfo, byte for byte"; replies 1 to 10). Each reply is given where
-//! the reading first meets what is wrong, so that the order of the replies is the order of the code.
-use crate::{algorithms::Algorithm, require};
+//! EncryptionInfo read from its front to its end (01, "EncryptionInfo, byte for byte"; replies 1 to 10, then 19). Each reply is given
+//! where the reading first meets what is wrong, so that the order of the replies is the order of the code.
+use crate::{algorithms::Algorithm, require, schemes::Scheme};
 
 #[derive(Debug, PartialEq)]
 pub struct Descriptor {
@@ -12,16 +12,17 @@ pub struct Descriptor {
     pub salt: [u8; 16],
     pub verifier: [u8; 16],
     pub hash: [u8; 32],
+    pub scheme: Scheme,
 }
 
 impl Descriptor {
-    /// The 84 bytes in which the outside interface hands a descriptor over.
+    /// The 88 bytes in which the outside interface hands a descriptor over.
     pub fn bytes(&self) -> Vec<u8> {
         let mut out = [self.major.to_le_bytes(), self.minor.to_le_bytes()].concat();
         for number in [self.algorithm.id, self.algorithm.key_size(), self.name_place, self.name_length] {
             out.extend(number.to_le_bytes());
         }
-        [&out[..], &self.salt, &self.verifier, &self.hash].concat()
+        [&out[..], &self.salt, &self.verifier, &self.hash, &(self.scheme as u32).to_le_bytes()].concat()
     }
 }
 
@@ -44,7 +45,7 @@ impl Reader<'_> {
     }
 }
 
-pub fn parse(info: &[u8]) -> Result<Descriptor, u16> {
+pub fn parse(info: &[u8], scheme: u64) -> Result<Descriptor, u16> {
     require(info.len() >= 12, 1)?;
     let mut rest = Reader(info);
     let (major, minor, _flags) = (rest.two(), rest.two(), rest.four());
@@ -66,5 +67,6 @@ pub fn parse(info: &[u8]) -> Result<Descriptor, u16> {
     require(salt_size == 16, 9)?;
     let (hash_size, hash) = (rest.four(), rest.take());
     require(hash_size == 20, 10)?;
-    Ok(Descriptor { major, minor, algorithm, name_place, name_length, salt, verifier, hash })
+    let scheme = Scheme::of_number(scheme).ok_or(19u16)?;
+    Ok(Descriptor { major, minor, algorithm, name_place, name_length, salt, verifier, hash, scheme })
 }

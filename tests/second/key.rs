@@ -1,5 +1,11 @@
 //! From password to key, and the verdict (01, "From password to key"; replies 11 and 12), by the steps of the text.
-use crate::{aes::Aes, algorithms::Algorithm, descriptor::parse, require, sha1::sha1};
+use crate::{
+    aes::Aes,
+    algorithms::Algorithm,
+    descriptor::{Descriptor, parse},
+    require,
+    sha1::sha1,
+};
 
 /// The most units of a password.
 pub const UNITS: usize = 255;
@@ -37,11 +43,11 @@ pub fn matches(aes: &Aes, verifier: [u8; 16], hash: [u8; 32]) -> bool {
     sha1(&aes.decrypt(verifier)) == aes.decrypt_all(&hash)[..20]
 }
 
-/// The cipher under the password's key, or the first reply of 1 to 12 that applies.
-pub fn unlock(info: &[u8], password: &[u16]) -> Result<Aes, u16> {
-    let d = parse(info)?;
+/// The cipher under the password's key with the descriptor, or the first reply that applies: 1 to 10, 19, 11 and 12.
+pub fn unlock(info: &[u8], password: &[u16], scheme: u64) -> Result<(Aes, Descriptor), u16> {
+    let d = parse(info, scheme)?;
     require(password.len() <= UNITS, 11)?;
     let aes = keyed(d.algorithm, &d.salt, password);
     require(matches(&aes, d.verifier, d.hash), 12)?;
-    Ok(aes)
+    Ok((aes, d))
 }

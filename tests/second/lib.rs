@@ -3,10 +3,12 @@
 //! it and sheets.rs the cases of opening, sealing and writing, and the outside test compares every call of the archive with it.
 pub mod aes;
 pub mod algorithms;
+pub mod chaining;
 pub mod descriptor;
 pub mod key;
 pub mod package;
 pub mod samples;
+pub mod schemes;
 pub mod sha1;
 pub mod writer;
 

@@ -1,6 +1,6 @@
-//! The package stream (01, "The package stream", with the extra block of request 2026-02; replies 13 to 16), on whole vectors: what is
-//! written, or the reply.
-use crate::{aes::Aes, key::unlock, require};
+//! The package stream (01, "The package stream", with the extra block of request 2026-02 and the schemes of 2026-04; replies 13 to 16),
+//! on whole vectors: what is written, or the reply.
+use crate::{aes::Aes, chaining, key::unlock, require, schemes::Scheme};
 
 /// The most bytes of a package.
 pub const LIMIT: usize = 268_435_456;
@@ -12,28 +12,44 @@ fn lengths(size: usize) -> [usize; 2] {
 }
 
 /// The package of a stream, given the room of the output.
-pub fn open(info: &[u8], password: &[u16], stream: &[u8], room: usize) -> Result<Vec<u8>, u16> {
-    let aes = unlock(info, password)?;
+pub fn open(info: &[u8], password: &[u16], scheme: u64, stream: &[u8], room: usize) -> Result<Vec<u8>, u16> {
+    let (aes, d) = unlock(info, password, scheme)?;
     let (size, blocks) = stream.split_first_chunk::<8>().ok_or(13u16)?;
     let size = u64::from_le_bytes(*size);
     require(size <= LIMIT as u64, 14)?;
     let size = size as usize;
     require(lengths(size).contains(&blocks.len()), 15)?;
     require(room >= size, 16)?;
-    Ok(aes.decrypt_all(blocks)[..size].to_vec())
+    let whole = match d.scheme {
+        Scheme::Ecb => aes.decrypt_all(blocks),
+        Scheme::Chained => chaining::decrypt_all(&aes, &d.salt, size, blocks),
+    };
+    Ok(whole[..size].to_vec())
 }
 
 /// The whole stream of a package, given the choice of an extra block and the room of the output.
-pub fn seal(info: &[u8], password: &[u16], package: &[u8], filling: [u8; 16], extra: bool, room: usize) -> Result<Vec<u8>, u16> {
-    let aes = unlock(info, password)?;
+pub fn seal(
+    info: &[u8],
+    password: &[u16],
+    scheme: u64,
+    package: &[u8],
+    filling: [u8; 16],
+    extra: bool,
+    room: usize,
+) -> Result<Vec<u8>, u16> {
+    let (aes, d) = unlock(info, password, scheme)?;
     require(package.len() <= LIMIT, 14)?;
     require(room >= lengths(package.len())[usize::from(extra)] + 8, 16)?;
-    Ok(sealed(&aes, package, filling, extra))
+    Ok(sealed(&aes, &d.salt, d.scheme, package, filling, extra))
 }
 
 /// StreamSize, then package and filling encrypted.
-pub fn sealed(aes: &Aes, package: &[u8], filling: [u8; 16], extra: bool) -> Vec<u8> {
+pub fn sealed(aes: &Aes, salt: &[u8; 16], scheme: Scheme, package: &[u8], filling: [u8; 16], extra: bool) -> Vec<u8> {
     let needed = lengths(package.len())[usize::from(extra)] - package.len();
     let whole = [package, &filling[..needed]].concat();
-    [&(package.len() as u64).to_le_bytes()[..], &aes.encrypt_all(&whole)].concat()
+    let blocks = match scheme {
+        Scheme::Ecb => aes.encrypt_all(&whole),
+        Scheme::Chained => chaining::encrypt_all(aes, salt, package.len(), &whole),
+    };
+    [&(package.len() as u64).to_le_bytes()[..], &blocks].concat()
 }

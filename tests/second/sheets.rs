@@ -1,14 +1,18 @@
 //! The lines of opening, sealing and writing that crates/cases prints, by the second implementation. A buffer is full of a5 before each
 //! call.
+mod chained;
+
 use second::{
     key::unlock,
     package::{open, seal},
     samples::{hex, pattern, rising, stepping, units},
+    schemes::Scheme,
     sha1::sha1,
     writer::write_info,
 };
 
 const LETTERS: &[u8; 17] = b"abcdefghijklmnopq";
+const ECB: u64 = Scheme::Ecb as u64;
 
 type Result = std::result::Result<Vec<u8>, u16>;
 
@@ -38,15 +42,15 @@ fn info(bits: u64, salt: [u8; 16]) -> Vec<u8> {
 }
 
 /// Sealed with filling f0 to ff.
-fn sealed(name: &str, info: &[u8], password: &str, package: &[u8], extra: bool, room: usize) -> Result {
+fn sealed(name: &str, info: &[u8], password: &str, scheme: u64, package: &[u8], extra: bool, room: usize) -> Result {
     let filling = std::array::from_fn(|i| 0xf0 + i as u8);
-    let result = seal(info, &units(password), package, filling, extra, room);
+    let result = seal(info, &units(password), scheme, package, filling, extra, room);
     line(&format!("seal {name}"), &result, room);
     result
 }
 
-fn opened(name: &str, info: &[u8], password: &[u16], stream: &[u8], room: usize) {
-    line(&format!("open {name}"), &open(info, password, stream, room), room);
+fn opened(name: &str, info: &[u8], password: &[u16], scheme: u64, stream: &[u8], room: usize) {
+    line(&format!("open {name}"), &open(info, password, scheme, stream, room), room);
 }
 
 fn round_trips(bits: u64, salt: [u8; 16]) {
@@ -54,8 +58,8 @@ fn round_trips(bits: u64, salt: [u8; 16]) {
     let info = info(bits, salt);
     let short = [(0, "0 bytes"), (1, "1 byte"), (15, "15 bytes"), (16, "16 bytes"), (17, "17 bytes")];
     let trip = |name: &str, package: &[u8], extra: bool, room: usize| {
-        let stream = sealed(name, &info, "password", package, extra, room).unwrap();
-        opened(name, &info, &units("password"), &stream, room);
+        let stream = sealed(name, &info, "password", ECB, package, extra, room).unwrap();
+        opened(name, &info, &units("password"), ECB, &stream, room);
     };
     short.iter().for_each(|(n, name)| trip(name, &LETTERS[..*n], false, 48));
     trip("4,096 bytes", &pattern(4_096), false, 4_200);
@@ -64,7 +68,7 @@ fn round_trips(bits: u64, salt: [u8; 16]) {
 
 fn refusals(info: &[u8]) {
     let right = units("password");
-    let mut stream = sealed("the stream below", info, "password", LETTERS, false, 56).unwrap();
+    let mut stream = sealed("the stream below", info, "password", ECB, LETTERS, false, 56).unwrap();
     stream.resize(56, 0);
     for (name, size, n) in [
         ("0 bytes", 17, 0),
@@ -80,21 +84,21 @@ fn refusals(info: &[u8]) {
         ("room one byte short", 17, 40),
     ] {
         let resized = [&size.to_le_bytes()[..], &stream[8..]].concat();
-        opened(name, info, &right, &resized[..n], 16);
+        opened(name, info, &right, ECB, &resized[..n], 16);
     }
-    opened("11 bytes of EncryptionInfo, 3 of the stream", &info[..11], &[], &stream[..3], 16);
-    opened("256 units, 3 bytes", info, &[0x61; 256], &stream[..3], 16);
-    opened("a wrong password, 3 bytes", info, &[], &stream[..3], 16);
-    let _ = sealed("1 byte with a wrong password", info, "", b"a", false, 23);
-    let _ = sealed("1 byte, room one byte short", info, "password", b"a", false, 23);
+    opened("11 bytes of EncryptionInfo, 3 of the stream", &info[..11], &[], ECB, &stream[..3], 16);
+    opened("256 units, 3 bytes", info, &[0x61; 256], ECB, &stream[..3], 16);
+    opened("a wrong password, 3 bytes", info, &[], ECB, &stream[..3], 16);
+    let _ = sealed("1 byte with a wrong password", info, "", ECB, b"a", false, 23);
+    let _ = sealed("1 byte, room one byte short", info, "password", ECB, b"a", false, 23);
 }
 
 /// Sealing with the choice of an extra block: at sizes that have none, and a byte of room too few for it.
 fn chosen(info: &[u8]) {
     for (name, n) in [("17 bytes", 17), ("16 bytes", 16), ("0 bytes", 0)] {
-        let _ = sealed(&format!("{name}, extra block chosen and ignored"), info, "password", &LETTERS[..n], true, 48);
+        let _ = sealed(&format!("{name}, extra block chosen and ignored"), info, "password", ECB, &LETTERS[..n], true, 48);
     }
-    let _ = sealed("4,096 bytes with an extra block, room one byte short", info, "password", &pattern(4_096), true, 4_119);
+    let _ = sealed("4,096 bytes with an extra block, room one byte short", info, "password", ECB, &pattern(4_096), true, 4_119);
 }
 
 /// Streams of n bytes, zeros after StreamSize: what else than the least length is opened.
@@ -114,7 +118,7 @@ fn lengthened(info: &[u8]) {
     ] {
         let mut stream = u64::to_le_bytes(size).to_vec();
         stream.resize(n, 0);
-        opened(name, info, &units("password"), &stream, room);
+        opened(name, info, &units("password"), ECB, &stream, room);
     }
 }
 
@@ -122,7 +126,7 @@ fn lengthened(info: &[u8]) {
 fn published(info: &[u8]) {
     let blocks = [0xdcb1367fc380378657fc11e7b968b3a6u128, 0x28bff7d8aca261ceca0591bcd81b0075];
     let stream = [&32u64.to_le_bytes()[..], &blocks.map(u128::to_be_bytes).concat()].concat();
-    opened("000 8.1", info, &units("password"), &stream, 48);
+    opened("000 8.1", info, &units("password"), ECB, &stream, 48);
 }
 
 /// Written with salt 00 to 0f and filling f0 to fb.
@@ -133,16 +137,16 @@ fn written(what: &str, bits: u64, password: &[u16], name: &[u8], room: usize) ->
     result
 }
 
-fn verdict(what: &str, info: &[u8], password: &[u16]) {
-    println!("verdict {what}: answer {}", unlock(info, password).err().unwrap_or(0));
+fn verdict(what: &str, info: &[u8], password: &[u16], scheme: u64) {
+    println!("verdict {what}: answer {}", unlock(info, password, scheme).err().unwrap_or(0));
 }
 
 /// Written for the password "password", and the verdicts on what was written.
 fn judged(what: &str, bits: u64, name: &[u8], room: usize) {
     let right = units("password");
     let info = written(what, bits, &right, name, room).unwrap();
-    verdict("right", &info, &right);
-    verdict("wrong", &info, &[]);
+    verdict("right", &info, &right, ECB);
+    verdict("wrong", &info, &[], ECB);
 }
 
 fn written_infos() {
@@ -185,4 +189,5 @@ fn main() {
     published(&info(128, stepping()));
     written_infos();
     unwritten();
+    chained::all();
 }

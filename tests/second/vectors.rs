@@ -2,6 +2,7 @@
 use second::{
     aes::Aes,
     algorithms::Algorithm,
+    chaining::starting_vector,
     key::{derive, keyed, matches},
     samples::{hex, pattern, rising, stepping, units},
     sha1::hashed,
@@ -75,8 +76,25 @@ fn keys() {
     }
 }
 
+// ---- what segments start from (002, 8 and 8.1; 003, "IV derivation")
+
+fn starting_line(name: &str, salt: &[u8; 16], number: u32) {
+    println!("starting vector {name}: {}", hex(&starting_vector(salt, number)));
+}
+
+/// The two that are published, then other segments: the second, the last of the largest package, and one whose number has four bytes that
+/// differ.
+fn starts() {
+    starting_line("002 8", &rising(), 0);
+    starting_line("002 8.1", &bytes("e88266490c5bd1eebd2b4394e3f830ef").try_into().unwrap(), 0);
+    for (name, number) in [("segment 1", 1), ("segment 65,535", 65_535), ("segment 0x01020304", 0x0102_0304)] {
+        starting_line(&format!("{name}, rising salt"), &rising(), number);
+    }
+}
+
 fn main() {
     hashes();
     ciphers();
     keys();
+    starts();
 }

@@ -49,6 +49,8 @@ pub const ROOM: u16 = 16;
 pub const FILES: u16 = 17;
 // A message to hash is longer than 65,536 bytes.
 pub const MESSAGE_LONG: u16 = 18;
+// The scheme is neither ECB nor chained.
+pub const SCHEME: u16 = 19;
 
 // The number of a rule that is broken, else what the rules after it give.
 pub fn first(broken: bool, number: u16, rest: u16) -> u16

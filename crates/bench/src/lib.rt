@@ -50,5 +50,5 @@ pub extern "C" fn bench_decrypt(key: &[u8], buf: &mut [u8]) -> u64 {
 // A verdict.
 #[no_mangle]
 pub extern "C" fn bench_verdict(info: &[u8], password: &[u16]) -> u64 {
-    password::verdict(info, password) as u64
+    password::verdict(info, password, descriptor::ECB) as u64
 }

@@ -32,38 +32,39 @@ pub fn decrypt(key: &[u8], block: [u8; 16]) -> aes::Reply
 }
 
 // EncryptionInfo parsed.
-pub fn parse(info: &[u8]) -> Parsed
-    ensures { λ r. ⌜ Calls.Parsing (now (info .entry)) r ⌝ }
+pub fn parse(info: &[u8], scheme: u64) -> Parsed
+    ensures { λ r. ⌜ Calls.Parsing (now (info .entry)) scheme r ⌝ }
 {
-    descriptor::parse(info)
+    descriptor::parse(info, scheme)
 }
 
 // A password judged.
-pub fn verdict(info: &[u8], password: &[u16]) -> u16
-    ensures { λ r. ⌜ Calls.Judging (lockOf (now (info .entry)) (now (password .entry))) r ⌝ }
+pub fn verdict(info: &[u8], password: &[u16], scheme: u64) -> u16
+    ensures { λ r. ⌜ Calls.Judging (lockOf (now (info .entry)) (now (password .entry)) scheme) r ⌝ }
 {
-    password::verdict(info, password)
+    password::verdict(info, password, scheme)
 }
 
 // A stream opened.
-pub fn open(info: &[u8], password: &[u16], stream: &[u8], out: &mut [u8]) -> Reply
-    ensures { λ r. ⌜ Calls.Opening (lockOf (now (info .entry)) (now (password .entry))) (now (stream .entry)) (now (out .entry)) (left r (now (out .exit))) ⌝ }
+pub fn open(info: &[u8], password: &[u16], scheme: u64, stream: &[u8], out: &mut [u8]) -> Reply
+    ensures { λ r. ⌜ Calls.Opening (lockOf (now (info .entry)) (now (password .entry)) scheme) (now (stream .entry)) (now (out .entry)) (left r (now (out .exit))) ⌝ }
 {
-    sheet::open(info, password, stream, out)
+    sheet::open(info, password, scheme, stream, out)
 }
 
 // A package sealed.
 pub fn seal(
     info: &[u8],
     password: &[u16],
+    scheme: u64,
     package: &[u8],
     filling: [u8; 16],
     extra: bool,
     out: &mut [u8],
 ) -> Reply
-    ensures { λ r. ⌜ Calls.Sealing (lockOf (now (info .entry)) (now (password .entry))) (now («package» .entry)) filling extra (now (out .entry)) (left r (now (out .exit))) ⌝ }
+    ensures { λ r. ⌜ Calls.Sealing (lockOf (now (info .entry)) (now (password .entry)) scheme) (now («package» .entry)) filling extra (now (out .entry)) (left r (now (out .exit))) ⌝ }
 {
-    sheet::seal(info, password, package, filling, extra, out)
+    sheet::seal(info, password, scheme, package, filling, extra, out)
 }
 
 // A new EncryptionInfo written.

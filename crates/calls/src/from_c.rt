@@ -27,39 +27,40 @@ pub fn aes_decrypt(key: &[u8], low: u64, high: u64, out: &mut [u8; 16]) -> u64
 }
 
 // EncryptionInfo parsed.
-pub fn parse(info: &[u8], out: &mut [u8; 84]) -> u64
-    ensures { λ r. ⌜ Calls.DescriptorOut (now (info .entry)) (now (out .entry)) (left (told r) (now (out .exit))) ⌝ }
+pub fn parse(info: &[u8], scheme: u64, out: &mut [u8; 88]) -> u64
+    ensures { λ r. ⌜ Calls.DescriptorOut (now (info .entry)) scheme (now (out .entry)) (left (told r) (now (out .exit))) ⌝ }
 {
-    capi::ropeshadow_parse(info, out)
+    capi::ropeshadow_parse(info, scheme, out)
 }
 
 // A password judged.
-pub fn verdict(info: &[u8], password: &[u16]) -> u64
-    ensures { λ r. ⌜ Calls.VerdictOut (lockOf (now (info .entry)) (now (password .entry))) (told r) ⌝ }
+pub fn verdict(info: &[u8], password: &[u16], scheme: u64) -> u64
+    ensures { λ r. ⌜ Calls.VerdictOut (lockOf (now (info .entry)) (now (password .entry)) scheme) (told r) ⌝ }
 {
-    capi::ropeshadow_verdict(info, password)
+    capi::ropeshadow_verdict(info, password, scheme)
 }
 
 // A stream opened.
-pub fn open(info: &[u8], password: &[u16], stream: &[u8], out: &mut [u8]) -> u64
-    ensures { λ r. ⌜ Calls.Opening (lockOf (now (info .entry)) (now (password .entry))) (now (stream .entry)) (now (out .entry)) (left (told r) (now (out .exit))) ⌝ }
+pub fn open(info: &[u8], password: &[u16], scheme: u64, stream: &[u8], out: &mut [u8]) -> u64
+    ensures { λ r. ⌜ Calls.Opening (lockOf (now (info .entry)) (now (password .entry)) scheme) (now (stream .entry)) (now (out .entry)) (left (told r) (now (out .exit))) ⌝ }
 {
-    capi::ropeshadow_open(info, password, stream, out)
+    capi::ropeshadow_open(info, password, scheme, stream, out)
 }
 
 // A package sealed.
 pub fn seal(
     info: &[u8],
     password: &[u16],
+    scheme: u64,
     package: &[u8],
     low: u64,
     high: u64,
     extra: u64,
     out: &mut [u8],
 ) -> u64
-    ensures { λ r. ⌜ Calls.Sealing (lockOf (now (info .entry)) (now (password .entry))) (now («package» .entry)) (sixteen low high) (chosen extra) (now (out .entry)) (left (told r) (now (out .exit))) ⌝ }
+    ensures { λ r. ⌜ Calls.Sealing (lockOf (now (info .entry)) (now (password .entry)) scheme) (now («package» .entry)) (sixteen low high) (chosen extra) (now (out .entry)) (left (told r) (now (out .exit))) ⌝ }
 {
-    capi::ropeshadow_seal(info, password, package, low, high, extra, out)
+    capi::ropeshadow_seal(info, password, scheme, package, low, high, extra, out)
 }
 
 // A new EncryptionInfo written.

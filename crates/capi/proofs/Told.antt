@@ -10,7 +10,7 @@ use Rattle.answers.specs.declared.Reply.{Reply}
 use Rattle.sha1.specs.Sha1 as Sha1
 use Rattle.aes.specs.Aes as Aes
 use Rattle.descriptor.specs.Info as Info
-use Rattle.descriptor.proofs.Laws.{Admitted, info-numbers, parsed-answer, parsed-fields}
+use Rattle.descriptor.proofs.Laws.{Parses, parse-numbers, parsed-answer, parsed-fields}
 use Rattle.password.specs.Lock.{Lock}
 use Rattle.password.specs.Verdict as Verdict
 use Rattle.password.proofs.Laws.{verdict-numbers}
@@ -49,9 +49,9 @@ module _ (key : List ℕ) (low high : ℕ) (out : List ℕ) where
   unfolding Capi.decryptOutcome Aes.decrypted
   decrypt-told = block-told (Aes.keyLength (length key)) _ out
 
-pub parse-told : (info out : List ℕ) → told (Capi.parseOutcome info out .word) ≡ Ended.reply (Info.parsed info .answer) 0
+pub parse-told : (info : List ℕ) (scheme : ℕ) (out : List ℕ) → told (Capi.parseOutcome info scheme out .word) ≡ Ended.reply (Info.parsed info scheme .answer) 0
 unfolding Capi.parseOutcome Info.parsed
-parse-told info out = value-told _ _ out (small (Info.infoRules info) (rw (info-numbers info) (omega arith)))
+parse-told info scheme out = value-told _ _ out (small (Info.parseRules info scheme) (rw (parse-numbers info scheme) (omega arith)))
 
 pub verdict-told : (lock : Lock) → told (Capi.verdictWord lock) ≡ Ended.reply (Verdict.judged lock) 0
 unfolding Capi.verdictWord Verdict.judged
@@ -90,7 +90,7 @@ write-told bits password name saltLow saltHigh verifierLow verifierHigh fillingL
     (rw (write-numbers (bitCount bits .0) password (length name) (length out)) (omega arith)))
 
 -- what an accepted parse leaves shows the descriptor
-pub parse-shows : (info out : List ℕ) → Admitted info → Shows (Capi.parseOutcome info out .out) (Info.described info)
+pub parse-shows : (info : List ℕ) (scheme : ℕ) (out : List ℕ) → Parses info scheme → Shows (Capi.parseOutcome info scheme out .out) (Info.described info scheme)
 unfolding Capi.parseOutcome Capi.outcomeBy
-parse-shows info out h =
-    rw (parsed-answer info ∙ h, parsed-fields info h) (bytes-show (Info.described info) (described-fits info h))
+parse-shows info scheme out h =
+    rw (parsed-answer info scheme ∙ h, parsed-fields info scheme h) (bytes-show (Info.described info scheme) (described-fits info scheme h))

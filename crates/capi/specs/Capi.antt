@@ -53,8 +53,8 @@ unfoldable pub decryptOutcome : (key : List ℕ) (low high : ℕ) (out : List �
 decryptOutcome key low high out = blockOutcome (Aes.decrypted key (sixteen low high)) out
 
 -- `ropeshadow_parse`
-unfoldable pub parseOutcome : (info out : List ℕ) → Outcome
-parseOutcome info out = outcomeBy (Info.parsed info .answer) 0 (descriptorBytes (Info.parsed info .fields)) out
+unfoldable pub parseOutcome : (info : List ℕ) (scheme : ℕ) (out : List ℕ) → Outcome
+parseOutcome info scheme out = outcomeBy (Info.parsed info scheme .answer) 0 (descriptorBytes (Info.parsed info scheme .fields)) out
 
 -- `ropeshadow_verdict`
 unfoldable pub verdictWord : (lock : Lock) → ℕ

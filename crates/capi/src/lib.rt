@@ -1,6 +1,6 @@
 // The outside interface: each part of 01's product as a function for C, on lent memory and numbers. It changes nothing but its `out`.
 //
-//     uint64_t word = ropeshadow_open(info, info_size, password, units, stream, stream_size, out, room);
+//     uint64_t word = ropeshadow_open(info, info_size, password, units, scheme, stream, stream_size, out, room);
 //     if (word % 65536 == 0) { .. the first word / 65536 bytes of out .. }
 //
 // Each returns one number, 01's answer + 65,536 x the size; the size is 0 but for a sheet opened or sealed and a descriptor written.
@@ -57,12 +57,12 @@ pub extern "C" fn ropeshadow_aes_decrypt(key: &[u8], low: u64, high: u64, out: &
     written(aes::decrypt(key, crossing::sixteen(low, high)), out)
 }
 
-// The descriptor of EncryptionInfo.
+// The descriptor of EncryptionInfo, with the scheme.
 #[no_mangle]
-pub extern "C" fn ropeshadow_parse(info: &[u8], out: &mut [u8; 84]) -> u64
-    ensures { λ r. ⌜ outcome r (now (out .exit)) ≡ Capi.parseOutcome (now (info .entry)) (now (out .entry)) ⌝ }
+pub extern "C" fn ropeshadow_parse(info: &[u8], scheme: u64, out: &mut [u8; 88]) -> u64
+    ensures { λ r. ⌜ outcome r (now (out .exit)) ≡ Capi.parseOutcome (now (info .entry)) scheme (now (out .entry)) ⌝ }
 {
-    let p = descriptor::parse(info);
+    let p = descriptor::parse(info, scheme);
     if p.answer == answers::DONE {
         let d = p.fields;
         *out = crossing::descriptor_bytes(d);
@@ -72,10 +72,10 @@ pub extern "C" fn ropeshadow_parse(info: &[u8], out: &mut [u8; 84]) -> u64
 
 // The verdict on a password.
 #[no_mangle]
-pub extern "C" fn ropeshadow_verdict(info: &[u8], password: &[u16]) -> u64
-    ensures { λ r. ⌜ r ≡ Capi.verdictWord (lockOf (now (info .entry)) (now (password .entry))) ⌝ }
+pub extern "C" fn ropeshadow_verdict(info: &[u8], password: &[u16], scheme: u64) -> u64
+    ensures { λ r. ⌜ r ≡ Capi.verdictWord (lockOf (now (info .entry)) (now (password .entry)) scheme) ⌝ }
 {
-    crossing::word(password::verdict(info, password), 0)
+    crossing::word(password::verdict(info, password, scheme), 0)
 }
 
 // A package stream opened into out.
@@ -83,12 +83,13 @@ pub extern "C" fn ropeshadow_verdict(info: &[u8], password: &[u16]) -> u64
 pub extern "C" fn ropeshadow_open(
     info: &[u8],
     password: &[u16],
+    scheme: u64,
     stream: &[u8],
     out: &mut [u8],
 ) -> u64
-    ensures { λ r. ⌜ outcome r (now (out .exit)) ≡ Capi.openOutcome (lockOf (now (info .entry)) (now (password .entry))) (now (stream .entry)) (now (out .entry)) ⌝ }
+    ensures { λ r. ⌜ outcome r (now (out .exit)) ≡ Capi.openOutcome (lockOf (now (info .entry)) (now (password .entry)) scheme) (now (stream .entry)) (now (out .entry)) ⌝ }
 {
-    let r = sheet::open(info, password, stream, out);
+    let r = sheet::open(info, password, scheme, stream, out);
     crossing::word(r.answer, r.size)
 }
 
@@ -97,16 +98,17 @@ pub extern "C" fn ropeshadow_open(
 pub extern "C" fn ropeshadow_seal(
     info: &[u8],
     password: &[u16],
+    scheme: u64,
     package: &[u8],
     low: u64,
     high: u64,
     extra: u64,
     out: &mut [u8],
 ) -> u64
-    ensures { λ r. ⌜ outcome r (now (out .exit)) ≡ Capi.sealOutcome (lockOf (now (info .entry)) (now (password .entry))) (now («package» .entry)) low high extra (now (out .entry)) ⌝ }
+    ensures { λ r. ⌜ outcome r (now (out .exit)) ≡ Capi.sealOutcome (lockOf (now (info .entry)) (now (password .entry)) scheme) (now («package» .entry)) low high extra (now (out .entry)) ⌝ }
 {
     let filling = crossing::sixteen(low, high);
-    let r = sheet::seal(info, password, package, filling, extra != 0, out);
+    let r = sheet::seal(info, password, scheme, package, filling, extra != 0, out);
     crossing::word(r.answer, r.size)
 }
 

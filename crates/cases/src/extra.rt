@@ -1,6 +1,7 @@
 // The extra block of 003, "Edge case": the choice at sizes that have none, the room that it takes, and the streams that have as many bytes
 // as one makes, fewer or more. Every buffer is full of a5 before the call.
 use crate::sheets;
+use descriptor::ECB;
 
 // The first n letters sealed with the choice, in a buffer of 48 bytes.
 fn ignored(what: &[u8], info: &[u8], n: usize) {
@@ -9,6 +10,7 @@ fn ignored(what: &[u8], info: &[u8], n: usize) {
         what,
         info,
         &samples::password(),
+        ECB,
         samples::front(b"abcdefghijklmnopq", n),
         true,
         &mut out,
@@ -24,6 +26,7 @@ fn cramped(info: &[u8]) {
         b"4,096 bytes with an extra block, room one byte short",
         info,
         &samples::password(),
+        ECB,
         &all,
         true,
         &mut out,
@@ -39,7 +42,7 @@ pub fn chosen() {
 }
 
 // Zeros after a StreamSize, as many bytes as any stream here has.
-fn zeros(size: u64) -> [u8; 4136] {
+pub fn zeros(size: u64) -> [u8; 4136] {
     let mut stream = [0u8; 4136];
     octets::put_le64(&mut stream, 0, size);
     stream
@@ -48,7 +51,8 @@ fn zeros(size: u64) -> [u8; 4136] {
 // The first n bytes of these, refused into a buffer of 16.
 fn refused(what: &[u8], info: &[u8], size: u64, n: usize) {
     let stream = zeros(size);
-    sheets::refused(what, info, &samples::password(), samples::front(&stream, n));
+    let password = samples::password();
+    sheets::refused(what, info, &password, ECB, samples::front(&stream, n));
 }
 
 // The one length besides the least that is opened, and then 16 a byte short.
@@ -61,6 +65,7 @@ fn opened(info: &[u8]) {
         b"an extra block at StreamSize 4,096",
         info,
         &password,
+        ECB,
         stream,
         &mut out,
     );
@@ -69,6 +74,7 @@ fn opened(info: &[u8]) {
         b"an extra block at StreamSize 4,096, room one byte short",
         info,
         &password,
+        ECB,
         stream,
         &mut short,
     );

@@ -1,8 +1,9 @@
 // EncryptionInfo and the password: a stream that breaks no rule, changed a field or two at a time.
 ghost use Prim.Native.Nat.{_+_, _≤_};
+use descriptor::ECB;
 
 // The same with another number in the four bytes at a place.
-fn with(s: [u8; 224], at: usize, v: u32) -> [u8; 224]
+pub fn with(s: [u8; 224], at: usize, v: u32) -> [u8; 224]
     requires { ⌜ at + 4 ≤ 224 ⌝ }
 {
     let mut t = s;
@@ -10,9 +11,9 @@ fn with(s: [u8; 224], at: usize, v: u32) -> [u8; 224]
     t
 }
 
-// What a parse gives.
-fn parse(what: &[u8], info: &[u8]) {
-    let p = descriptor::parse(info);
+// What a parse gives, under a scheme.
+fn parsed(what: &[u8], info: &[u8], scheme: u64) {
+    let p = descriptor::parse(info, scheme);
     let d = p.fields;
     lines::text(b"parse ");
     lines::text(what);
@@ -24,7 +25,14 @@ fn parse(what: &[u8], info: &[u8]) {
     lines::number(d.name_length as u64);
     lines::text(b" key ");
     lines::number(d.key_size.0 as u64);
+    lines::text(b" scheme ");
+    lines::number(d.scheme as u64);
     lines::text(b"\n");
+}
+
+// The same under ECB.
+fn parse(what: &[u8], info: &[u8]) {
+    parsed(what, info, ECB);
 }
 
 // Streams that break no rule.
@@ -89,47 +97,65 @@ fn sized(s: [u8; 224]) {
     parse(b"VerifierHashSize 0", &with(s, 188, 0));
 }
 
+// Schemes: the other one, numbers that are none, and an earlier rule broken too.
+fn schemes(s: [u8; 224]) {
+    parsed(b"scheme 2", &s, descriptor::CHAINED);
+    parsed(b"scheme 0", &s, 0);
+    parsed(b"scheme 3", &s, 3);
+    parsed(b"scheme 2^32 + 1", &s, 4294967297);
+    parsed(b"scheme 2^64 - 1", &s, 0xffffffffffffffff);
+    parsed(b"scheme 3 and VerifierHashSize 0", &with(s, 188, 0), 3);
+    parsed(b"scheme 3 and 11 bytes", samples::front(&s, 11), 3);
+}
+
 pub fn parses() {
     let s = samples::info_256();
     accepted(s);
     framed(s);
     named(s);
     sized(s);
+    schemes(s);
 }
 
 // The verdict on a password.
-pub fn verdict(what: &[u8], info: &[u8], password: &[u16]) {
+pub fn verdict(what: &[u8], info: &[u8], password: &[u16], scheme: u64) {
     lines::text(b"verdict ");
     lines::text(what);
     lines::text(b": answer ");
-    lines::number(password::verdict(info, password) as u64);
+    lines::number(password::verdict(info, password, scheme) as u64);
     lines::text(b"\n");
 }
 
 // A password that is right or wrong.
 fn judged(s: [u8; 224]) {
     let right = samples::password();
-    verdict(b"right", &s, &right);
-    verdict(b"right, a zero unit in the name", &with(s, 60, 0), &right);
+    verdict(b"right", &s, &right, ECB);
+    verdict(
+        b"right, a zero unit in the name",
+        &with(s, 60, 0),
+        &right,
+        ECB,
+    );
     verdict(
         b"right, one unit more",
         &s,
         &[0x70, 0x61, 0x73, 0x73, 0x77, 0x6f, 0x72, 0x64, 0],
+        ECB,
     );
-    verdict(b"empty", &s, &[]);
+    verdict(b"empty", &s, &[], ECB);
 }
 
 // A password of as many units as the slice has, all the same and wrong.
 fn long(s: [u8; 224], units: &[u16]) {
     lines::number(units.len() as u64);
     lines::text(b" units: ");
-    verdict(b"wrong", &s, units);
+    verdict(b"wrong", &s, units, ECB);
     lines::number(units.len() as u64);
     lines::text(b" units: ");
-    verdict(b"wrong, VerifierHashSize 0", &with(s, 188, 0), units);
+    verdict(b"wrong, VerifierHashSize 0", &with(s, 188, 0), units, ECB);
     lines::number(units.len() as u64);
     lines::text(b" units: ");
-    verdict(b"wrong, 11 bytes", samples::front(&s, 11), units);
+    verdict(b"wrong, 11 bytes", samples::front(&s, 11), units, ECB);
 }
 
 pub fn verdicts() {

@@ -1,5 +1,6 @@
-// The cases of 01 that are run and not proved: a line each, which the gate compares with the file stdout. Each reply from 1 to 16
-// is given once where a later rule is broken too, so that the order shows; a refused call shows its buffer as it was.
+// The cases of 01 that are run and not proved: a line each, which the gate compares with the file stdout. Each reply from 1 to 16,
+// and 19, is given once where a later rule is broken too, so that the order shows; a refused call shows its buffer as it was.
+mod chained;
 mod extra;
 mod info;
 mod sheets;
@@ -15,4 +16,8 @@ fn main() {
     sheets::published();
     writes::written();
     writes::unwritten();
+    chained::round_trips();
+    chained::swaps();
+    chained::refusals();
+    chained::unnumbered();
 }

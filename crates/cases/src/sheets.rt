@@ -1,5 +1,7 @@
 // Opening and sealing: there and back under each key size, each reply, and the ciphertext of 000 8.1. Every buffer is full of a5
 // before the call.
+use descriptor::ECB;
+
 // A reply and the whole buffer after it, a long one by its hash.
 pub fn left(reply: answers::Reply, out: &[u8]) {
     lines::text(b": answer ");
@@ -22,39 +24,57 @@ pub fn seal(
     what: &[u8],
     info: &[u8],
     password: &[u16],
+    scheme: u64,
     package: &[u8],
     extra: bool,
     out: &mut [u8],
 ) -> usize {
     let filling = *b"\xf0\xf1\xf2\xf3\xf4\xf5\xf6\xf7\xf8\xf9\xfa\xfb\xfc\xfd\xfe\xff";
-    let r = sheet::seal(info, password, package, filling, extra, out);
+    let r = sheet::seal(info, password, scheme, package, filling, extra, out);
     lines::text(b"seal ");
     lines::text(what);
     left(r, out);
     r.size
 }
 
-pub fn open(what: &[u8], info: &[u8], password: &[u16], stream: &[u8], out: &mut [u8]) {
-    let r = sheet::open(info, password, stream, out);
+pub fn open(
+    what: &[u8],
+    info: &[u8],
+    password: &[u16],
+    scheme: u64,
+    stream: &[u8],
+    out: &mut [u8],
+) {
+    let r = sheet::open(info, password, scheme, stream, out);
     lines::text(b"open ");
     lines::text(what);
     left(r, out);
 }
 
 // There and back; `stream` and `out` are the two buffers.
-fn trip(what: &[u8], info: &[u8], package: &[u8], extra: bool, stream: &mut [u8], out: &mut [u8]) {
+pub fn trip(
+    what: &[u8],
+    info: &[u8],
+    scheme: u64,
+    package: &[u8],
+    extra: bool,
+    stream: &mut [u8],
+    out: &mut [u8],
+) {
     let password = samples::password();
-    let size = seal(what, info, &password, package, extra, stream);
-    open(what, info, &password, samples::front(stream, size), out);
+    let size = seal(what, info, &password, scheme, package, extra, stream);
+    let sealed = samples::front(stream, size);
+    open(what, info, &password, scheme, sealed, out);
 }
 
 // The first n letters, in buffers of 48 bytes.
-fn short_trip(what: &[u8], info: &[u8], n: usize) {
+pub fn short_trip(what: &[u8], info: &[u8], scheme: u64, n: usize) {
     let mut stream = [0xa5u8; 48];
     let mut out = [0xa5u8; 48];
     trip(
         what,
         info,
+        scheme,
         samples::front(b"abcdefghijklmnopq", n),
         false,
         &mut stream,
@@ -68,15 +88,15 @@ fn long_trip(what: &[u8], info: &[u8], extra: bool) {
     samples::pattern(&mut all);
     let mut stream = [0xa5u8; 4200];
     let mut out = [0xa5u8; 4200];
-    trip(what, info, &all, extra, &mut stream, &mut out);
+    trip(what, info, ECB, &all, extra, &mut stream, &mut out);
 }
 
 fn trips(info: &[u8]) {
-    short_trip(b"0 bytes", info, 0);
-    short_trip(b"1 byte", info, 1);
-    short_trip(b"15 bytes", info, 15);
-    short_trip(b"16 bytes", info, 16);
-    short_trip(b"17 bytes", info, 17);
+    short_trip(b"0 bytes", info, ECB, 0);
+    short_trip(b"1 byte", info, ECB, 1);
+    short_trip(b"15 bytes", info, ECB, 15);
+    short_trip(b"16 bytes", info, ECB, 16);
+    short_trip(b"17 bytes", info, ECB, 17);
     long_trip(b"4,096 bytes", info, false);
     long_trip(b"4,096 bytes with an extra block", info, true);
 }
@@ -97,6 +117,7 @@ fn sample(info: &[u8]) -> [u8; 56] {
         b"the stream below",
         info,
         &samples::password(),
+        ECB,
         b"abcdefghijklmnopq",
         false,
         &mut stream,
@@ -105,9 +126,9 @@ fn sample(info: &[u8]) -> [u8; 56] {
 }
 
 // Into a buffer of 16 bytes, which is left as it is.
-pub fn refused(what: &[u8], info: &[u8], password: &[u16], stream: &[u8]) {
+pub fn refused(what: &[u8], info: &[u8], password: &[u16], scheme: u64, stream: &[u8]) {
     let mut out = [0xa5u8; 16];
-    open(what, info, password, stream, &mut out);
+    open(what, info, password, scheme, stream, &mut out);
 }
 
 // The first n bytes of the stream, with another StreamSize.
@@ -115,7 +136,7 @@ fn resized(what: &[u8], info: &[u8], stream: [u8; 56], size: u64, n: usize) {
     let mut s = stream;
     octets::put_le64(&mut s, 0, size);
     let password = samples::password();
-    refused(what, info, &password, samples::front(&s, n));
+    refused(what, info, &password, ECB, samples::front(&s, n));
 }
 
 // 13 to 16, each with a later rule broken too but for the last; StreamSize is read whole.
@@ -145,18 +166,21 @@ fn locked(info: &[u8], stream: &[u8]) {
         b"11 bytes of EncryptionInfo, 3 of the stream",
         samples::front(info, 11),
         &[],
+        ECB,
         samples::front(stream, 3),
     );
     refused(
         b"256 units, 3 bytes",
         info,
         &[0x61u16; 256],
+        ECB,
         samples::front(stream, 3),
     );
     refused(
         b"a wrong password, 3 bytes",
         info,
         &[],
+        ECB,
         samples::front(stream, 3),
     );
 }
@@ -168,6 +192,7 @@ fn unsealed(info: &[u8]) {
         b"1 byte with a wrong password",
         info,
         &[],
+        ECB,
         b"a",
         false,
         &mut out,
@@ -176,6 +201,7 @@ fn unsealed(info: &[u8]) {
         b"1 byte, room one byte short",
         info,
         &samples::password(),
+        ECB,
         b"a",
         false,
         &mut out,
@@ -203,6 +229,7 @@ pub fn published() {
         b"000 8.1",
         &samples::info_128(),
         &samples::password(),
+        ECB,
         &stream,
         &mut out,
     );

@@ -3,6 +3,7 @@
 use crate::info;
 use crate::sheets;
 use descriptor::BitCount;
+use descriptor::ECB;
 
 // Written with salt 00 to 0f, the verifier of 000 8.4 and filling f0 to fb.
 fn write(what: &[u8], bits: u32, password: &[u16], name: &[u8], out: &mut [u8]) -> usize {
@@ -27,8 +28,8 @@ fn judged(what: &[u8], bits: u32, name: &[u8], out: &mut [u8]) {
     let right = samples::password();
     let size = write(what, bits, &right, name, out);
     let written = samples::front(out, size);
-    info::verdict(b"right", written, &right);
-    info::verdict(b"wrong", written, &[]);
+    info::verdict(b"right", written, &right, ECB);
+    info::verdict(b"wrong", written, &[], ECB);
 }
 
 // With the usual name, which every sample has at 44, in a buffer of 240 bytes.

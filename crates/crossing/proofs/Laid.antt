@@ -39,11 +39,11 @@ module _ (d : Descriptor) where
   length-numbers = simp (length-append, length-leBytes)
 
   -- and its fields that are bytes
-  pub fields-laid : (n b₁ b₂ b₃ b₄ : List ℕ) → Crossing.Crosses d → n ≡ Crossing.numberBytes d
-      → b₁ ≡ paste (replicate 84 0) 0 n 20 → b₂ ≡ paste b₁ 20 (d .salt) 16 → b₃ ≡ paste b₂ 36 (d .«encrypted_verifier») 16
-      → b₄ ≡ paste b₃ 52 (d .«encrypted_verifier_hash») 32 → b₄ ≡ Crossing.descriptorBytes d
+  pub fields-laid : (n b₁ b₂ b₃ b₄ b₅ : List ℕ) → Crossing.Crosses d → n ≡ Crossing.numberBytes d
+      → b₁ ≡ paste (replicate 88 0) 0 n 20 → b₂ ≡ paste b₁ 20 (d .salt) 16 → b₃ ≡ paste b₂ 36 (d .«encrypted_verifier») 16
+      → b₄ ≡ paste b₃ 52 (d .«encrypted_verifier_hash») 32 → b₅ ≡ paste b₄ 84 (leBytes 4 (d .scheme)) 4 → b₅ ≡ Crossing.descriptorBytes d
   unfolding Crossing.descriptorBytes
-  fields-laid n b₁ b₂ b₃ b₄ f q e₁ e₂ e₃ e₄ =
-      let numbers = more 0 20 64 (Crossing.numberBytes d) b₁ (none (replicate 84 0) 84 refl) length-numbers (rw q at e₁) in
-      let verifier = more 36 16 32 (d .«encrypted_verifier») b₃ (more 20 16 48 (d .salt) b₂ numbers (f .salt) e₂) (f .verifier) e₃ in
-      whole (more 52 32 0 (d .«encrypted_verifier_hash») b₄ verifier (f .hash) e₄)
+  fields-laid n b₁ b₂ b₃ b₄ b₅ f q e₁ e₂ e₃ e₄ e₅ =
+      let numbers = more 0 20 68 (Crossing.numberBytes d) b₁ (none (replicate 88 0) 88 refl) length-numbers (rw q at e₁) in
+      let verifier = more 36 16 36 (d .«encrypted_verifier») b₃ (more 20 16 52 (d .salt) b₂ numbers (f .salt) e₂) (f .verifier) e₃ in
+      whole (more-le 84 4 0 (d .scheme) b₅ (more 52 32 4 (d .«encrypted_verifier_hash») b₄ verifier (f .hash) e₄) e₅)

@@ -1,5 +1,5 @@
 -- Nothing is lost where values cross: a word tells its answer and its size again, any sixteen bytes are those of two numbers, and each field
--- of a descriptor can be read from its 84 bytes. Assumes nothing.
+-- of a descriptor can be read from its 88 bytes. Assumes nothing.
 use mathlib.Core.Path.{_≡_, refl, sym, ap, _∙_}
 use mathlib.Core.List.{List, _++_, append-assoc}
 use Prim.Native.Nat.{ℕ, _+_, _*_, _/_, _%_, _^_, _<_}
@@ -7,7 +7,7 @@ use native.Mathlib.Omega.{arith}
 use borrow.Author.Tests.{le-ltb}
 use lib.ListN.{length, take, drop, take-append-drop, length-append, length-drop}
 use lib.Seq.{take-at, drop-at, take-all, length-take-le}
-use Rattle.octets.specs.Octets.{Bytes, leBytes, leAt}
+use Rattle.octets.specs.Octets.{Bytes, le, leBytes, leAt}
 use Rattle.octets.proofs.Numbers.{length-leBytes, le-leBytes, leBytes-leAt}
 use Rattle.answers.specs.Ended.{reply}
 use Rattle.descriptor.specs.declared.Descriptor.{Descriptor}
@@ -68,14 +68,19 @@ pub record Shows (b : List ℕ) (d : Descriptor) : Type 0 where
   pub name : leAt 4 16 b ≡ d .«name_length»
   pub salt : take 16 (drop 20 b) ≡ d .salt
   pub verifier : take 16 (drop 36 b) ≡ d .«encrypted_verifier»
-  pub hash : drop 52 b ≡ d .«encrypted_verifier_hash»
+  pub hash : take 32 (drop 52 b) ≡ d .«encrypted_verifier_hash»
+  pub scheme : leAt 4 84 b ≡ d .scheme
 
 pub bytes-show : (d : Descriptor) → Crossing.Crosses d → Shows (Crossing.descriptorBytes d) d
 unfolding Crossing.descriptorBytes Crossing.numberBytes leBytes leAt
 bytes-show d f =
-    let parts = append-assoc (d .salt) (d .«encrypted_verifier») (d .«encrypted_verifier_hash») in
-    let past = ap (drop 16) parts ∙ drop-at (d .salt) (d .«encrypted_verifier» ++ d .«encrypted_verifier_hash») 16 (f .salt) in
+    let scheme = leBytes 4 (d .scheme) in
+    let last = d .«encrypted_verifier_hash» ++ scheme in
+    let parts : d .salt ++ d .«encrypted_verifier» ++ d .«encrypted_verifier_hash» ++ scheme ≡ d .salt ++ (d .«encrypted_verifier» ++ last) = simp append-assoc in
+    let past = ap (drop 16) parts ∙ drop-at (d .salt) (d .«encrypted_verifier» ++ last) 16 (f .salt) in
     let both : length (d .salt ++ d .«encrypted_verifier») ≡ 32 = simp (length-append, f .salt, f .verifier) in
+    let all : length (d .salt ++ d .«encrypted_verifier» ++ d .«encrypted_verifier_hash») ≡ 64 = simp (length-append, f .salt, f .verifier, f .hash) in
+    let behind = append-assoc (d .salt ++ d .«encrypted_verifier») (d .«encrypted_verifier_hash») scheme in
     record {
       major = le-leBytes 2 (d .major) (f .major);
       minor = le-leBytes 2 (d .minor) (f .minor);
@@ -83,9 +88,10 @@ bytes-show d f =
       key = le-leBytes 4 (d .«key_size» .0) (f .key);
       place = le-leBytes 4 (d .«name_place») (f .place);
       name = le-leBytes 4 (d .«name_length») (f .name);
-      salt = ap (take 16) parts ∙ take-at (d .salt) (d .«encrypted_verifier» ++ d .«encrypted_verifier_hash») 16 (f .salt);
-      verifier = ap (take 16) past ∙ take-at (d .«encrypted_verifier») (d .«encrypted_verifier_hash») 16 (f .verifier);
-      hash = drop-at (d .salt ++ d .«encrypted_verifier») (d .«encrypted_verifier_hash») 32 both;
+      salt = ap (take 16) parts ∙ take-at (d .salt) (d .«encrypted_verifier» ++ last) 16 (f .salt);
+      verifier = ap (take 16) past ∙ take-at (d .«encrypted_verifier») last 16 (f .verifier);
+      hash = ap (λ (l : List ℕ). take 32 (drop 32 l)) behind ∙ ap (take 32) (drop-at (d .salt ++ d .«encrypted_verifier») last 32 both) ∙ take-at (d .«encrypted_verifier_hash») scheme 32 (f .hash);
+      scheme = ap (λ (l : List ℕ). le (take 4 l)) (drop-at (d .salt ++ d .«encrypted_verifier» ++ d .«encrypted_verifier_hash») scheme 64 all) ∙ le-leBytes 4 (d .scheme) (f .scheme);
     }
 
 -- so the bytes are those of one descriptor
@@ -100,4 +106,5 @@ shown-once b d e s t = λ i. record {
   salt = (sym (s .salt) ∙ t .salt) i;
   «encrypted_verifier» = (sym (s .verifier) ∙ t .verifier) i;
   «encrypted_verifier_hash» = (sym (s .hash) ∙ t .hash) i;
+  scheme = (sym (s .scheme) ∙ t .scheme) i;
 }

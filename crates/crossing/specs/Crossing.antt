@@ -46,9 +46,9 @@ numberBytes d =
     ++ leBytes 4 (d .«name_place»)
     ++ leBytes 4 (d .«name_length»)
 
--- a descriptor in 84 bytes: its numbers, the salt, EncryptedVerifier, EncryptedVerifierHash
+-- a descriptor in 88 bytes: its numbers, the salt, EncryptedVerifier, EncryptedVerifierHash, and the scheme in four bytes
 unfoldable pub descriptorBytes : Descriptor → List ℕ
-descriptorBytes d = numberBytes d ++ d .salt ++ d .«encrypted_verifier» ++ d .«encrypted_verifier_hash»
+descriptorBytes d = numberBytes d ++ d .salt ++ d .«encrypted_verifier» ++ d .«encrypted_verifier_hash» ++ leBytes 4 (d .scheme)
 
 -- a descriptor that these bytes hold: no field is too long
 pub record Crosses (d : Descriptor) : Type 0 where
@@ -61,3 +61,4 @@ pub record Crosses (d : Descriptor) : Type 0 where
   pub salt : length (d .salt) ≡ 16
   pub verifier : length (d .«encrypted_verifier») ≡ 16
   pub hash : length (d .«encrypted_verifier_hash») ≡ 32
+  pub scheme : d .scheme < 2 ^ 32

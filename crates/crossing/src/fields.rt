@@ -1,4 +1,4 @@
-// A descriptor in 84 bytes: its fields one after the other.
+// A descriptor in 88 bytes: its fields one after the other.
 ghost use mathlib.Core.Path.{_≡_};
 ghost use Rattle.crossing.specs.Crossing as Crossing;
 use descriptor::Descriptor;
@@ -18,8 +18,8 @@ fn numbers(d: Descriptor) -> [u8; 20]
     b
 }
 
-// They, and the fields that are bytes.
-pub fn descriptor_bytes(d: Descriptor) -> [u8; 84]
+// They, the fields that are bytes, and the scheme.
+pub fn descriptor_bytes(d: Descriptor) -> [u8; 88]
     requires { ⌜ Crossing.Crosses d ⌝ }
     ensures { λ r. ⌜ r ≡ Crossing.descriptorBytes d ⌝ }
 {
@@ -27,10 +27,11 @@ pub fn descriptor_bytes(d: Descriptor) -> [u8; 84]
     let salt = d.salt;
     let verifier = d.encrypted_verifier;
     let hash = d.encrypted_verifier_hash;
-    let mut b = [0u8; 84];
+    let mut b = [0u8; 88];
     octets::copy(&n, 0, 20, &mut b, 0);
     octets::copy(&salt, 0, 16, &mut b, 20);
     octets::copy(&verifier, 0, 16, &mut b, 36);
     octets::copy(&hash, 0, 32, &mut b, 52);
+    octets::put_le32(&mut b, 84, d.scheme as u32);
     b
 }

@@ -190,9 +190,9 @@ module _ (f : Fields) where
 
       -- ---- so the parse gives them
 
-      pub laid-described : stream.described s ≡ says f
+      pub laid-described : (scheme : ℕ) → stream.described s scheme ≡ says f scheme
       unfolding stream.described
-      laid-described =
+      laid-described scheme =
           rw (reads h .major, reads h .minor, reads h .alg, reads h .key, reads h .header, reads h .extra, salt-is, verifier-is, hash-is, name-long)
 
       pub laid-admitted : Good f → Admitted s

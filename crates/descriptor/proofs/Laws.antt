@@ -1,16 +1,16 @@
 -- A stream that breaks no rule keeps each of them; here they are as facts on its numbers. Assumes nothing.
-use mathlib.Core.Path.{_≡_, refl}
+use mathlib.Core.Path.{_≡_, refl, sym, _∙_}
 use mathlib.Core.Bool.{Bool, true, false, _||_, true≢false}
-use mathlib.Core.List.{List, [], _∷_}
-use mathlib.Core.Logic.{inl, inr}
+use mathlib.Core.List.{List, [], _∷_, _++_}
+use mathlib.Core.Logic.{_↔_, inl, inr}
 use Prim.Native.Nat.{ℕ, zero, suc, _+_, _-_, _%_, _≤_}
 use native.Mathlib.Omega.{arith}
 use borrow.Author.Tests.{ltb-false, eqb-true, not-false, ne-eqb}
-use lib.Dec.{T, ltb}
+use lib.Dec.{T, ltb, eqb}
 use lib.ListN.{length}
 use Rattle.octets.proofs.Parts.{length-part}
-use Rattle.answers.specs.Rules.{firstOf, numbered, numbers, testOf, OneOf}
-use Rattle.answers.proofs.Laws.{rule-holds}
+use Rattle.answers.specs.Rules.{firstOf, after, numbered, numbers, testOf, OneOf}
+use Rattle.answers.proofs.Laws.{either, after-none, after-zero, none-broken, rule-holds, in-turn, numbers-both, by-numbers}
 use Rattle.descriptor.specs.Info as stream
 use Rattle.descriptor.specs.declared.Descriptor.{Descriptor}
 use Rattle.descriptor.proofs.Algorithms.{suite-known, in-bytes}
@@ -29,6 +29,10 @@ info-numbered s = tt
 
 abbrev pub infoList : List ℕ
 infoList = 1 ∷ 2 ∷ 3 ∷ 4 ∷ 5 ∷ 6 ∷ 7 ∷ 8 ∷ 9 ∷ 10 ∷ []
+
+-- and those of a parse
+abbrev pub parseList : List ℕ
+parseList = infoList ++ 19 ∷ []
 
 pub info-numbers : (s : List ℕ) → numbers (stream.infoRules s) ≡ infoList
 unfolding stream.infoRules
@@ -63,19 +67,73 @@ module _ (s : List ℕ) (h : Admitted s) where
   unfolding stream.infoRules stream.numbersOf
   alg-known = eqb-true _ _ (not-false _ (keeps 6 s h))
 
+-- ---- the scheme
+
+pub scheme-numbers : (scheme : ℕ) → numbers (stream.schemeRules scheme) ≡ 19 ∷ []
+unfolding stream.schemeRules
+scheme-numbers scheme = refl
+
+pub scheme-numbered : (scheme : ℕ) → T (numbered (stream.schemeRules scheme))
+unfolding stream.schemeRules
+scheme-numbered scheme = tt
+
+one-good : (scheme : ℕ) → OneOf (1 ∷ 2 ∷ []) scheme → stream.badScheme scheme ≡ false
+unfolding stream.badScheme
+one-good scheme (inl e) = rw e
+one-good scheme (inr (inl e)) = rw e
+one-good scheme (inr (inr e)) = absurd e
+
+known-scheme : (scheme : ℕ) → stream.badScheme scheme ≡ false → OneOf (1 ∷ 2 ∷ []) scheme
+unfolding stream.badScheme
+known-scheme scheme h =
+    elim (either (eqb scheme 1)) [
+      | inl e ↦ inl (eqb-true scheme 1 e)
+      | inr e ↦ inr (inl (eqb-true scheme 2 (not-false _ (rw e at h))))
+    ]
+
+-- one that breaks no rule is one of the two
+pub scheme-known : (scheme : ℕ) → (firstOf (stream.schemeRules scheme) ≡ 0) ↔ OneOf (1 ∷ 2 ∷ []) scheme
+unfolding stream.schemeRules stream.badScheme
+scheme-known scheme = (
+  λ h. known-scheme scheme (none-broken (stream.schemeRules scheme) tt .0 h .0),
+  λ o. none-broken (stream.schemeRules scheme) tt .1 (one-good scheme o, tt),
+)
+
 -- ---- what a parse gives
 
-pub parsed-answer : (s : List ℕ) → stream.parsed s .answer ≡ firstOf (stream.infoRules s)
-unfolding stream.parsed
-parsed-answer s = refl
+module _ (s : List ℕ) (scheme : ℕ) where
+  -- the stream and the scheme break no rule
+  abbrev pub Parses : Type 0
+  Parses = firstOf (stream.parseRules s scheme) ≡ 0
 
-pub parsed-fields : (s : List ℕ) → Admitted s → stream.parsed s .fields ≡ stream.described s
-unfolding stream.parsed
-parsed-fields s h = simp h
+  pub parse-numbers : numbers (stream.parseRules s scheme) ≡ parseList
+  unfolding stream.parseRules
+  parse-numbers = simp (numbers-both, info-numbers, scheme-numbers)
 
-pub refused-fields : (s : List ℕ) → (Admitted s → ⊥) → stream.parsed s .fields ≡ stream.zeroed
-unfolding stream.parsed
-refused-fields s h = simp (ne-eqb _ _ h)
+  pub parse-numbered : T (numbered (stream.parseRules s scheme))
+  parse-numbered = by-numbers (stream.parseRules s scheme) _ parse-numbers tt
+
+  pub parse-in-turn : firstOf (stream.parseRules s scheme) ≡ after (firstOf (stream.infoRules s)) (firstOf (stream.schemeRules scheme))
+  unfolding stream.parseRules
+  parse-in-turn = in-turn (stream.infoRules s) (stream.schemeRules scheme) (info-numbered s)
+
+  pub parses-both : Parses → Admitted s × OneOf (1 ∷ 2 ∷ []) scheme
+  parses-both h = let z = after-zero _ _ (sym parse-in-turn ∙ h) in (z .0, scheme-known scheme .0 (z .1))
+
+  pub both-parse : Admitted s → OneOf (1 ∷ 2 ∷ []) scheme → Parses
+  both-parse h o = parse-in-turn ∙ after-none _ _ h ∙ scheme-known scheme .1 o
+
+  pub parsed-answer : stream.parsed s scheme .answer ≡ firstOf (stream.parseRules s scheme)
+  unfolding stream.parsed
+  parsed-answer = refl
+
+  pub parsed-fields : Parses → stream.parsed s scheme .fields ≡ stream.described s scheme
+  unfolding stream.parsed
+  parsed-fields h = simp h
+
+  pub refused-fields : (Parses → ⊥) → stream.parsed s scheme .fields ≡ stream.zeroed
+  unfolding stream.parsed
+  refused-fields h = simp (ne-eqb _ _ h)
 
 -- ---- the fields within their ranges
 
@@ -89,6 +147,7 @@ pub record WellFormed (d : Descriptor) : Type 0 where
   pub salt : length (d .salt) ≡ 16
   pub verifier : length (d .«encrypted_verifier») ≡ 16
   pub hash : length (d .«encrypted_verifier_hash») ≡ 32
+  pub scheme : OneOf (1 ∷ 2 ∷ []) (d .scheme)
 
 two-to-four : (n : ℕ) → 2 ≤ n → n ≤ 4 → OneOf (2 ∷ 3 ∷ 4 ∷ []) n
 two-to-four zero g h = absurd (omega arith)
@@ -98,9 +157,10 @@ two-to-four (suc (suc (suc zero))) g h = inr (inl refl)
 two-to-four (suc (suc (suc (suc zero)))) g h = inr (inr (inl refl))
 two-to-four (suc (suc (suc (suc (suc n))))) g h = absurd (omega arith)
 
-pub well-formed : (s : List ℕ) → Admitted s → WellFormed (stream.described s)
+pub well-formed : (s : List ℕ) (scheme : ℕ) → Parses s scheme → WellFormed (stream.described s scheme)
 unfolding stream.described stream.infoRules stream.numbersOf stream.badVersion stream.badName stream.saltOf stream.encryptedVerifier stream.encryptedVerifierHash
-well-formed s h =
+well-formed s scheme k =
+    let h : Admitted s = parses-both s scheme k .0 in
     let l : length s ≡ stream.headerSize s + 84 = info-length s h in
     let v = or-false (keeps 2 s h) in
     let m = or-false (v .1) in
@@ -116,4 +176,5 @@ well-formed s h =
       salt = length-part 16 (16 + stream.headerSize s) s (omega arith);
       verifier = length-part 16 (32 + stream.headerSize s) s (omega arith);
       hash = length-part 32 (52 + stream.headerSize s) s (omega arith);
+      scheme = parses-both s scheme k .1;
     }

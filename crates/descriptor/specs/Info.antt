@@ -1,7 +1,7 @@
 -- EncryptionInfo of Standard encryption (01, "EncryptionInfo, byte for byte"; 004 2.3.2, 2.3.3 and 2.3.4.5, 000 section 2): its
--- fields at their places, the rules 1 to 10, and what a parse gives. Assumes nothing.
-use mathlib.Core.Bool.{Bool, cond, not, _||_}
-use mathlib.Core.List.{List, [], _∷_}
+-- fields at their places, the rules 1 to 10 and 19, and what a parse gives. Assumes nothing.
+use mathlib.Core.Bool.{Bool, cond, not, _&&_, _||_}
+use mathlib.Core.List.{List, [], _∷_, _++_}
 use Prim.Native.Nat.{ℕ, _+_, _-_, _/_, _%_}
 use lib.Dec.{ltb, eqb}
 use lib.ListN.{length, take, drop, replicate}
@@ -136,11 +136,23 @@ numberRules n =
 unfoldable pub infoRules : List ℕ → List Rule
 infoRules s = numberRules (numbersOf s)
 
+-- the schemes by which a package's blocks go together (request 2026-04): 1, each by itself (000 section 7), and 2, chained (001, 003)
+unfoldable pub badScheme : ℕ → Bool
+badScheme scheme = not (eqb scheme 1) && not (eqb scheme 2)
+
+-- the rule on the scheme, which no field of EncryptionInfo names: 19, after all of EncryptionInfo's
+unfoldable pub schemeRules : (scheme : ℕ) → List Rule
+schemeRules scheme = rule 19 (badScheme scheme) ∷ []
+
+-- those of a parse
+unfoldable pub parseRules : List ℕ → (scheme : ℕ) → List Rule
+parseRules s scheme = infoRules s ++ schemeRules scheme
+
 -- ---- the parse
 
--- what a stream that breaks no rule says; KeySize counts bits in the file and bytes from here on
-unfoldable pub described : List ℕ → Descriptor
-described s =
+-- what a stream that breaks no rule says, with the scheme; KeySize counts bits in the file and bytes from here on
+unfoldable pub described : List ℕ → (scheme : ℕ) → Descriptor
+described s scheme =
     record {
       major = major s;
       minor = minor s;
@@ -151,6 +163,7 @@ described s =
       salt = saltOf s;
       «encrypted_verifier» = encryptedVerifier s;
       «encrypted_verifier_hash» = encryptedVerifierHash s;
+      scheme = scheme;
     }
 
 -- zeros in every field, the place too
@@ -166,12 +179,11 @@ zeroed =
       salt = replicate 16 0;
       «encrypted_verifier» = replicate 16 0;
       «encrypted_verifier_hash» = replicate 32 0;
+      scheme = 0;
     }
 
--- what `parse` gives for every stream
-unfoldable pub parsed : List ℕ → Parsed
-parsed s =
-    record {
-      answer = firstOf (infoRules s);
-      fields = cond (eqb (firstOf (infoRules s)) 0) (described s) zeroed;
-    }
+-- what `parse` gives for every stream and scheme
+unfoldable pub parsed : List ℕ → (scheme : ℕ) → Parsed
+parsed s scheme =
+    let answer : ℕ = firstOf (parseRules s scheme) in
+    record { answer = answer; fields = cond (eqb answer 0) (described s scheme) zeroed }

@@ -48,9 +48,9 @@ verifier f =
 unfoldable pub laidOut : Fields → List ℕ
 laidOut f = front f ++ f .name ++ f .opaque ++ verifier f
 
--- the descriptor that it describes; KeySize counts bits in the file and bytes from here on
-abbrev pub says : Fields → Descriptor
-says f =
+-- the descriptor that it describes, with the scheme; KeySize counts bits in the file and bytes from here on
+abbrev pub says : Fields → (scheme : ℕ) → Descriptor
+says f scheme =
     record {
       major = f .major;
       minor = f .minor;
@@ -61,4 +61,5 @@ says f =
       salt = f .salt;
       «encrypted_verifier» = f .encryptedVerifier;
       «encrypted_verifier_hash» = f .encryptedVerifierHash;
+      scheme = scheme;
     }

@@ -1,10 +1,11 @@
 // EncryptionInfo of Standard encryption, parsed or refused (01, "EncryptionInfo, byte for byte"; 004 2.3.4.5, 000 section 2).
 //
-//     let p = descriptor::parse(info);
+//     let p = descriptor::parse(info, descriptor::ECB);
 //     if p.answer == answers::DONE { .. p.fields.salt .. }
 //
 // Both Flags, ProviderType, the Reserved fields, the name's text and the opaque bytes after it are not judged. The verifier's place
-// comes from HeaderSize alone, never from the name's text.
+// comes from HeaderSize alone, never from the name's text. By which scheme the package's blocks go together stands nowhere in the file:
+// whoever asks says it, and it is judged last and kept with the fields.
 ghost use mathlib.Core.Path.{_≡_};
 ghost use Prim.Native.Nat.{_/_};
 ghost use Rattle.answers.specs.Rules.{firstOf};
@@ -14,6 +15,11 @@ use octets::le16;
 use octets::le32;
 use octets::sixteen;
 use octets::thirty_two;
+
+// The schemes: each block by itself (000 section 7), and chained in segments (001, 003).
+pub const ECB: u64 = 1;
+
+pub const CHAINED: u64 = 2;
 
 // A key's length as the file counts it. It is no count of bytes, and can't be used as one.
 pub struct BitCount(pub u32);
@@ -46,7 +52,7 @@ pub struct Numbers {
     pub verifier_hash_size: u32,
 }
 
-// What EncryptionInfo says.
+// What EncryptionInfo says, and the scheme.
 pub struct Descriptor {
     pub major: u16,
     pub minor: u16,
@@ -58,6 +64,7 @@ pub struct Descriptor {
     pub salt: [u8; 16],
     pub encrypted_verifier: [u8; 16],
     pub encrypted_verifier_hash: [u8; 32],
+    pub scheme: u64,
 }
 
 // An answer, and the descriptor where it is 0: zeros where it is not.
@@ -138,6 +145,12 @@ fn bad_name(h: u32, x: u32) -> bool
     (h - 32 - x) % 2 != 0
 }
 
+fn bad_scheme(scheme: u64) -> bool
+    ensures { λ r. ⌜ r ≡ stream.badScheme scheme ⌝ }
+{
+    scheme != ECB && scheme != CHAINED
+}
+
 // The numbers at their places; EncryptionVerifier comes right after EncryptionHeader, which begins at 12.
 fn numbers_of(s: &[u8]) -> Numbers
     ensures { λ r. ⌜ r ≡ stream.numbersOf (now (s .entry)) ⌝ }
@@ -181,10 +194,17 @@ fn answer(n: Numbers) -> u16
     first(n.length < 12, answers::INFO_SHORT, rest)
 }
 
+// The rule on the scheme.
+fn scheme_answer(scheme: u64) -> u16
+    ensures { λ r. ⌜ r ≡ firstOf (stream.schemeRules scheme) ⌝ }
+{
+    first(bad_scheme(scheme), answers::SCHEME, answers::DONE)
+}
+
 // The fields of a stream whose numbers break no rule.
-fn described(s: &[u8], n: Numbers) -> Descriptor
+fn described(s: &[u8], n: Numbers, scheme: u64) -> Descriptor
     requires { ⌜ (n ≡ stream.numbersOf (now s)) × (firstOf (stream.numberRules n) ≡ 0) ⌝ }
-    ensures { λ r. ⌜ r ≡ stream.described (now (s .entry)) ⌝ }
+    ensures { λ r. ⌜ r ≡ stream.described (now (s .entry)) scheme ⌝ }
 {
     let h = n.header_size as usize;
     let salt = sixteen(s, 16 + h);
@@ -200,6 +220,7 @@ fn described(s: &[u8], n: Numbers) -> Descriptor
         salt,
         encrypted_verifier,
         encrypted_verifier_hash,
+        scheme,
     }
 }
 
@@ -220,20 +241,22 @@ pub fn zeroed() -> Descriptor
         salt,
         encrypted_verifier,
         encrypted_verifier_hash,
+        scheme: 0,
     }
 }
 
-// The descriptor of a stream that breaks none of the rules 1 to 10, or the first broken rule's number.
-pub fn parse(info: &[u8]) -> Parsed
-    ensures { λ r. ⌜ r ≡ stream.parsed (now (info .entry)) ⌝ }
+// The descriptor of a stream that breaks none of the rules 1 to 10 and of a scheme that does not break 19, or the first broken rule's
+// number.
+pub fn parse(info: &[u8], scheme: u64) -> Parsed
+    ensures { λ r. ⌜ r ≡ stream.parsed (now (info .entry)) scheme ⌝ }
 {
     let n = numbers_of(info);
-    let a = answer(n);
+    let a = answers::then(answer(n), scheme_answer(scheme));
     if a != answers::DONE {
         let fields = zeroed();
         return Parsed { answer: a, fields };
     }
-    let fields = described(info, n);
+    let fields = described(info, n, scheme);
     Parsed {
         answer: answers::DONE,
         fields,

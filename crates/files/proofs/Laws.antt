@@ -11,12 +11,12 @@ use Rattle.answers.specs.Rules.{firstOf, numbered, numbers}
 use Rattle.answers.specs.Ended.{left, reply}
 use Rattle.answers.proofs.Laws.{either, none-broken, then, stop}
 use Rattle.answers.proofs.Endings.{ended-refused}
-use Rattle.password.specs.Lock.{Lock, lockOf}
+use Rattle.password.specs.Lock.{Lock}
 use Rattle.lengths.specs.Lengths.{streamSize}
 use Rattle.sheet.specs.Sheet as Sheet
 use Rattle.sheet.proofs.Lengths.{openable}
 use Rattle.sheet.proofs.Laws.{open-answer, open-zero, open-done}
-use Rattle.files.specs.Files.{File, filesLimit, long, fileRules, units, rules, filesOpened}
+use Rattle.files.specs.Files.{File, filesLimit, long, fileRules, fileLock, rules, filesOpened}
 
 -- what `sheet` opens lies within its output
 module _ (lock : Lock) (stream out : List ℕ) where
@@ -49,7 +49,7 @@ module _ (info password stream : File) where
     by-files h = rw (stop (fileRules info password stream) _ h) (ended-refused _ _ _ out h)
 
     pub by-sheet : firstOf (fileRules info password stream) ≡ 0
-        → filesOpened info password stream out ≡ Sheet.opened (lockOf (info .bytes) (units (password .bytes))) (stream .bytes) out
+        → filesOpened info password stream out ≡ Sheet.opened (fileLock info password) (stream .bytes) out
     unfolding filesOpened rules Sheet.opened
     by-sheet z = rw (then (fileRules info password stream) _ file-numbered z)
 
@@ -57,7 +57,7 @@ module _ (info password stream : File) where
     pub size-within : filesOpened info password stream out .reply .size ≤ length out
     size-within =
         elim (either (eqb (firstOf (fileRules info password stream)) 0)) [
-          | inl e ↦ rw (by-sheet (eqb-true _ _ e)) (sheet-within (lockOf (info .bytes) (units (password .bytes))) (stream .bytes) out)
+          | inl e ↦ rw (by-sheet (eqb-true _ _ e)) (sheet-within (fileLock info password) (stream .bytes) out)
           | inr e ↦ rw (by-files (eqb-false _ _ e)) (omega arith)
         ]
 

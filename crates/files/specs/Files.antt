@@ -7,7 +7,7 @@ use lib.Dec.{ltb, eqb}
 use lib.ListN.{length}
 use Rattle.answers.specs.Rules.{Rule, rule, firstOf}
 use Rattle.answers.specs.Ended.{Left, ended}
-use Rattle.password.specs.Lock.{lockOf}
+use Rattle.password.specs.Lock.{Lock, lockOf}
 use Rattle.lengths.specs.Lengths.{streamSize}
 use Rattle.sheet.specs.Sheet.{openRules, packageOf}
 
@@ -54,11 +54,15 @@ units [] = []
 units (low ∷ []) = []
 units (low ∷ high ∷ s) = (low + 256 * high) ∷ units s
 
--- rule 17, then the rules 1 to 16
+-- what they unlock: the program's scheme is 1
+abbrev pub fileLock : (info password : File) → Lock
+fileLock info password = lockOf (info .bytes) (units (password .bytes)) 1
+
+-- rule 17, then the rules of opening
 unfoldable pub rules : (info password stream : File) (room : ℕ) → List Rule
 rules info password stream room =
     fileRules info password stream
-    ++ openRules (lockOf (info .bytes) (units (password .bytes))) (stream .bytes) room
+    ++ openRules (fileLock info password) (stream .bytes) room
 
 -- `open`
 unfoldable pub filesOpened : (info password stream : File) (out : List ℕ) → Left
@@ -66,5 +70,5 @@ filesOpened info password stream out =
     ended
     (firstOf (rules info password stream (length out)))
     (streamSize (stream .bytes))
-    (packageOf (lockOf (info .bytes) (units (password .bytes))) (stream .bytes))
+    (packageOf (fileLock info password) (stream .bytes))
     out

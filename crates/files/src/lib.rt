@@ -59,5 +59,5 @@ pub fn open(there: There, info: &[u8], password: &[u8], stream: &[u8], out: &mut
     let mut units = [0u16; UNITS];
     put_units(password, &mut units);
     let n = password.len() / 2;
-    sheet::open(info, &units[..n], stream, out)
+    sheet::open(info, &units[..n], descriptor::ECB, stream, out)
 }

@@ -13,9 +13,10 @@ use Rattle.aes.specs.Aes.{keyLength, expanded}
 use Rattle.aes.specs.declared.Expanded.{Expanded}
 use Rattle.steps.specs.Steps.{openAll}
 use Rattle.steps.proofs.Made.{length-open-all}
-use Rattle.blocks.specs.Blocks.{ecbUnder, stepFrom, streamStart}
+use Rattle.blocks.specs.Blocks.{ecbUnder, stepFrom, ecbMode, streamStart}
+use Rattle.blocks.specs.declared.Mode.{Mode}
 use Rattle.blocks.specs.declared.Place.{Place}
-use Rattle.blocks.proofs.Aes.{under-width, under-sized, laid-under}
+use Rattle.blocks.proofs.Aes.{under-width, under-sized, ecb-started, laid-under}
 use Rattle.password.specs.Verifier.{verifierOpening}
 
 -- twenty bytes that are those of 48 after the first sixteen, one by one
@@ -36,8 +37,9 @@ module _ (x y : List ℕ) (hx : length x ≡ 20) (hy : length y ≡ 48) where
   agree-not i l h = sym (same-false x stored (λ e. h (ap (λ (z : List ℕ). getD z i 0) e ∙ stored-at i l)))
 
 -- 48 bytes decrypted into as many
-pub opened-law : (key : Expanded) (p : Place) (k s x : List ℕ) → keyLength (length k) ≡ true → key ≡ expanded k → p ≡ streamStart → length s ≡ 48
-    → x ≡ paste (replicate 48 0) 0 (openAll (stepFrom p (key .bytes) (key .rounds)) s) 48 → x ≡ verifierOpening k s
+pub opened-law : (key : Expanded) (m : Mode) (p : Place) (k s x : List ℕ) → keyLength (length k) ≡ true → key ≡ expanded k → m ≡ ecbMode → p ≡ streamStart
+    → length s ≡ 48 → x ≡ paste (replicate 48 0) 0 (openAll (stepFrom p m (key .bytes) (key .rounds)) s) 48 → x ≡ verifierOpening k s
 unfolding verifierOpening
-opened-law key p k s x t q h l e =
-    laid-under k t openAll key p 48 (replicate 48 0) s x q h refl (length-open-all (ecbUnder k) (under-sized k) s ∙ rw (under-width k, l)) e
+opened-law key m p k s x t q g h l e =
+    laid-under openAll (stepFrom p m (key .bytes) (key .rounds)) (ecbUnder k) 48 (replicate 48 0) s x
+    (ecb-started k t m key p (ap (λ (n : Mode). n .chained) g) q h) refl (length-open-all (ecbUnder k) (under-sized k) s ∙ rw (under-width k, l)) e

@@ -1,5 +1,5 @@
 -- The ways out of the verdict: a law for each, for this crate's proofs and those above. Assumes nothing.
-use mathlib.Core.Path.{_≡_, refl, sym, ap, _∙_}
+use mathlib.Core.Path.{_≡_, refl, sym, ap, ap₂, _∙_}
 use mathlib.Core.Bool.{Bool, true, false}
 use mathlib.Core.List.{List, [], _∷_, _++_}
 use mathlib.Core.Logic.{_↔_, inl, inr, ⊎-elim}
@@ -9,17 +9,17 @@ use borrow.Author.Tests.{ltb-false, le-ltb, ne-eqb, eqb-true, eqb-false}
 use lib.Dec.{T, eqb}
 use lib.ListN.{length}
 use Rattle.octets.specs.Octets.{Bytes}
-use Rattle.answers.specs.Rules.{firstOf, after, numbered, numbers}
+use Rattle.answers.specs.Rules.{firstOf, after, numbered, numbers, OneOf}
 use Rattle.answers.proofs.Laws.{either, in-turn, after-none, after-some, after-zero, numbers-both, by-numbers, both-zero, none-broken}
 use Rattle.aes.specs.Aes.{keyLength, expanded}
 use Rattle.aes.proofs.Keys.{key-lengths}
-use Rattle.descriptor.specs.Info.{infoRules, described, parsed}
+use Rattle.descriptor.specs.Info.{parseRules}
 use Rattle.descriptor.specs.declared.Descriptor.{Descriptor}
 use Rattle.descriptor.specs.declared.Parsed.{Parsed}
-use Rattle.descriptor.proofs.Laws.{Admitted, WellFormed, info-numbered, infoList, info-numbers, parsed-answer, parsed-fields}
+use Rattle.descriptor.proofs.Laws.{Admitted, Parses, WellFormed, parseList, parse-numbers, parse-numbered, both-parse, parsed-answer, parsed-fields}
 use Rattle.derivation.specs.Key.{keyBytes}
 use Rattle.derivation.proofs.Laws.{length-keyBytes, keyBytes-bytes}
-use Rattle.password.specs.Lock.{Lock, lockOf}
+use Rattle.password.specs.Lock.{Lock, parseOf, descriptorOf}
 use Rattle.password.specs.Verifier.{verifierOpening, matches}
 use Rattle.password.specs.Verdict as Verdict
 use Rattle.password.specs.declared.Unlocked.{Unlocked}
@@ -58,11 +58,11 @@ unfolding Verdict.textRules
 text-short p = (λ h. ltb-false _ _ (none-broken (Verdict.textRules p) tt .0 h .0), λ h. none-broken (Verdict.textRules p) tt .1 (le-ltb _ _ h, tt))
 
 abbrev earlyList : List ℕ
-earlyList = infoList ++ 11 ∷ []
+earlyList = parseList ++ 11 ∷ []
 
 early-numbers : (lock : Lock) → numbers (Verdict.earlyRules lock) ≡ earlyList
 unfolding Verdict.earlyRules
-early-numbers lock = simp (numbers-both, info-numbers, text-numbers)
+early-numbers lock = simp (numbers-both, parse-numbers, text-numbers)
 
 early-numbered : (lock : Lock) → T (numbered (Verdict.earlyRules lock))
 early-numbered lock = by-numbers (Verdict.earlyRules lock) _ (early-numbers lock) tt
@@ -85,24 +85,24 @@ Matched d p = matches (verifierOpening (Verdict.keyOf d p)) (d .«encrypted_veri
 
 module _ (lock : Lock) where
   abbrev d : Descriptor
-  d = described (lock .info)
+  d = descriptorOf lock
 
   -- what is answered before anything is hashed
   abbrev early : ℕ
   early = firstOf (Verdict.earlyRules lock)
 
-  early-in-turn : early ≡ after (firstOf (infoRules (lock .info))) (firstOf (Verdict.textRules (lock .password)))
+  early-in-turn : early ≡ after (firstOf (parseRules (lock .info) (lock .scheme))) (firstOf (Verdict.textRules (lock .password)))
   unfolding Verdict.earlyRules
-  early-in-turn = in-turn (infoRules (lock .info)) (Verdict.textRules (lock .password)) (info-numbered (lock .info))
+  early-in-turn = in-turn (parseRules (lock .info) (lock .scheme)) (Verdict.textRules (lock .password)) (parse-numbered (lock .info) (lock .scheme))
 
-  -- nothing to object: EncryptionInfo is admitted, and the text too
-  pub early-zero : early ≡ 0 → Admitted (lock .info) × (firstOf (Verdict.textRules (lock .password)) ≡ 0)
+  -- nothing to object: EncryptionInfo and the scheme are admitted, and the text too
+  pub early-zero : early ≡ 0 → Parses (lock .info) (lock .scheme) × (firstOf (Verdict.textRules (lock .password)) ≡ 0)
   early-zero z = after-zero _ _ (sym early-in-turn ∙ z)
 
   -- as it is judged: by the parse
-  pub early-parsed : early ≡ Verdict.earlyOf (parsed (lock .info)) (lock .password)
+  pub early-parsed : early ≡ Verdict.earlyOf (parseOf lock) (lock .password)
   unfolding Verdict.earlyOf
-  early-parsed = rw (parsed-answer (lock .info)) early-in-turn
+  early-parsed = rw (parsed-answer (lock .info) (lock .scheme)) early-in-turn
 
   -- then the verifier
   in-order : Verdict.judged lock ≡ after early (firstOf (Verdict.verifierRules d (lock .password)))
@@ -139,41 +139,41 @@ unlocked-answer lock =
       | inr e ↦ rw e
     ]
 
--- a verdict of 0 means an admitted EncryptionInfo and a short text, and comes with the descriptor and the expanded key
+-- a verdict of 0 means an admitted EncryptionInfo and scheme and a short text, and comes with the descriptor and the expanded key
 module _ (lock : Lock) (v : Verdict.judged lock ≡ 0) where
-  pub admitted : Admitted (lock .info)
+  pub admitted : Parses (lock .info) (lock .scheme)
   unfolding Verdict.judged Verdict.verdictRules
   admitted =
-      let z = both-zero (Verdict.earlyRules lock) (Verdict.verifierRules (described (lock .info)) (lock .password)) (early-numbered lock) v .0 in
+      let z = both-zero (Verdict.earlyRules lock) (Verdict.verifierRules (descriptorOf lock) (lock .password)) (early-numbered lock) v .0 in
       early-zero lock z .0
 
-  pub unlocked-fields : Verdict.unlocked lock .fields ≡ described (lock .info)
+  pub unlocked-fields : Verdict.unlocked lock .fields ≡ descriptorOf lock
   unfolding Verdict.unlocked
   unlocked-fields = simp v
 
-  pub unlocked-key : Verdict.unlocked lock .key ≡ expanded (Verdict.keyOf (described (lock .info)) (lock .password))
+  pub unlocked-key : Verdict.unlocked lock .key ≡ expanded (Verdict.keyOf (descriptorOf lock) (lock .password))
   unfolding Verdict.unlocked
   unlocked-key = simp v
 
 -- ---- what makes a verdict of 0
 
-pub accepted : (lock : Lock) → Admitted (lock .info) → length (lock .password) ≤ 255 → Matched (described (lock .info)) (lock .password) ≡ true
-    → Verdict.judged lock ≡ 0
-accepted lock h l m =
-    let z = early-in-turn lock ∙ after-none _ _ h ∙ text-short (lock .password) .1 l in
+pub accepted : (lock : Lock) → Admitted (lock .info) → OneOf (1 ∷ 2 ∷ []) (lock .scheme) → length (lock .password) ≤ 255
+    → Matched (descriptorOf lock) (lock .password) ≡ true → Verdict.judged lock ≡ 0
+accepted lock h o l m =
+    let z = early-in-turn lock ∙ after-none _ _ (both-parse (lock .info) (lock .scheme) h o) ∙ text-short (lock .password) .1 l in
     sym (unlocked-answer lock) ∙ ap (λ (u : Unlocked). u .answer) (done lock z m)
 
 -- ---- what the verdict depends on
 
 -- on the parse and the password alone
 by-parse : (lock : Lock)
-    → Verdict.judged lock ≡ after (Verdict.earlyOf (parsed (lock .info)) (lock .password)) (firstOf (Verdict.verifierRules (parsed (lock .info) .fields) (lock .password)))
+    → Verdict.judged lock ≡ after (Verdict.earlyOf (parseOf lock) (lock .password)) (firstOf (Verdict.verifierRules (parseOf lock .fields) (lock .password)))
 by-parse lock =
     elim (either (eqb (early lock) 0)) [
-      | inl e ↦ rw (← early-parsed lock, parsed-fields (lock .info) (early-zero lock (eqb-true _ _ e) .0)) (in-order lock)
+      | inl e ↦ rw (← early-parsed lock, parsed-fields (lock .info) (lock .scheme) (early-zero lock (eqb-true _ _ e) .0)) (in-order lock)
       | inr e ↦ in-order lock ∙ after-some _ _ (eqb-false _ _ e) ∙ sym (rw (← early-parsed lock) (after-some _ _ (eqb-false _ _ e)))
     ]
 
-pub determined : (info other p : List ℕ) → parsed info ≡ parsed other → Verdict.judged (lockOf info p) ≡ Verdict.judged (lockOf other p)
-determined info other p e =
-    by-parse (lockOf info p) ∙ ap (λ (x : Parsed). after (Verdict.earlyOf x p) (firstOf (Verdict.verifierRules (x .fields) p))) e ∙ sym (by-parse (lockOf other p))
+pub determined : (lock other : Lock) → lock .password ≡ other .password → parseOf lock ≡ parseOf other → Verdict.judged lock ≡ Verdict.judged other
+determined lock other p e =
+    by-parse lock ∙ ap₂ (λ (x : Parsed) (q : List ℕ). after (Verdict.earlyOf x q) (firstOf (Verdict.verifierRules (x .fields) q))) e p ∙ sym (by-parse other)

@@ -6,11 +6,11 @@ use lib.Dec.{ltb, eqb}
 use lib.ListN.{length, replicate}
 use Rattle.answers.specs.Rules.{Rule, rule, firstOf, after}
 use Rattle.aes.specs.Aes.{expanded}
-use Rattle.descriptor.specs.Info.{infoRules, described, zeroed}
+use Rattle.descriptor.specs.Info.{parseRules, zeroed}
 use Rattle.descriptor.specs.declared.Descriptor.{Descriptor}
 use Rattle.descriptor.specs.declared.Parsed.{Parsed}
 use Rattle.derivation.specs.Key.{keyBytes}
-use Rattle.password.specs.Lock.{Lock}
+use Rattle.password.specs.Lock.{Lock, descriptorOf}
 use Rattle.password.specs.Verifier.{verifierOpening, matches}
 use Rattle.password.specs.declared.Unlocked.{Unlocked}
 
@@ -29,17 +29,17 @@ unfoldable pub verifierRules : Descriptor → (password : List ℕ) → List Rul
 verifierRules d password =
     rule 12 (not (matches (verifierOpening (keyOf d password)) (d .«encrypted_verifier») (d .«encrypted_verifier_hash»))) ∷ []
 
--- those that are judged before anything is hashed, in order: 1 to 11
+-- those that are judged before anything is hashed, in order: 1 to 10, 19 and 11
 unfoldable pub earlyRules : Lock → List Rule
-earlyRules lock = infoRules (lock .info) ++ textRules (lock .password)
+earlyRules lock = parseRules (lock .info) (lock .scheme) ++ textRules (lock .password)
 
 -- what they come to, from the parse and the password
 unfoldable pub earlyOf : Parsed → (password : List ℕ) → ℕ
 earlyOf p password = after (p .answer) (firstOf (textRules password))
 
--- 1 to 12, in order
+-- 1 to 10, 19, 11 and 12, in order
 unfoldable pub verdictRules : Lock → List Rule
-verdictRules lock = earlyRules lock ++ verifierRules (described (lock .info)) (lock .password)
+verdictRules lock = earlyRules lock ++ verifierRules (descriptorOf lock) (lock .password)
 
 -- ---- the verdict
 
@@ -54,5 +54,5 @@ refusedUnlock answer = record { answer = answer; fields = zeroed; key = record {
 -- what `unlock` gives: the descriptor and the expanded key where the answer is 0
 unfoldable pub unlocked : Lock → Unlocked
 unlocked lock =
-    let d : Descriptor = described (lock .info) in
+    let d : Descriptor = descriptorOf lock in
     cond (eqb (judged lock) 0) (record { answer = 0; fields = d; key = expanded (keyOf d (lock .password)) }) (refusedUnlock (judged lock))

@@ -1,7 +1,7 @@
 // The verdict on a password, and what it unlocks: the descriptor and the key (01, rules 11 and 12; 004 2.3.4.8 and 2.3.4.9, 000
 // section 6).
 //
-//     let u = password::unlock(info, units);
+//     let u = password::unlock(info, units, scheme);
 //     if u.answer == answers::DONE { .. u.key, u.fields.salt .. }
 //
 // A password is 16-bit units as they are: any unit, none of them special, at most 255. The 50,000 turns are run once a call.
@@ -50,12 +50,12 @@ fn early_answer(p: Parsed, password: &[u16]) -> u16
     answers::then(p.answer, text_answer(password))
 }
 
-// The verdict on a password, with the descriptor and the key that it unlocks. A refused EncryptionInfo or text is answered before
-// anything is hashed.
-pub fn unlock(info: &[u8], password: &[u16]) -> Unlocked
-    ensures { λ r. ⌜ r ≡ Verdict.unlocked (lockOf (now (info .entry)) (now (password .entry))) ⌝ }
+// The verdict on a password, with the descriptor and the key that it unlocks. A refused EncryptionInfo, scheme or text is answered
+// before anything is hashed.
+pub fn unlock(info: &[u8], password: &[u16], scheme: u64) -> Unlocked
+    ensures { λ r. ⌜ r ≡ Verdict.unlocked (lockOf (now (info .entry)) (now (password .entry)) scheme) ⌝ }
 {
-    let p = descriptor::parse(info);
+    let p = descriptor::parse(info, scheme);
     let a = early_answer(p, password);
     if a != answers::DONE {
         return refused(a);
@@ -77,8 +77,8 @@ pub fn unlock(info: &[u8], password: &[u16]) -> Unlocked
 }
 
 // The verdict alone.
-pub fn verdict(info: &[u8], password: &[u16]) -> u16
-    ensures { λ r. ⌜ r ≡ Verdict.judged (lockOf (now (info .entry)) (now (password .entry))) ⌝ }
+pub fn verdict(info: &[u8], password: &[u16], scheme: u64) -> u16
+    ensures { λ r. ⌜ r ≡ Verdict.judged (lockOf (now (info .entry)) (now (password .entry)) scheme) ⌝ }
 {
-    unlock(info, password).answer
+    unlock(info, password, scheme).answer
 }

@@ -19,13 +19,13 @@ fn fields(verifier: [u8; 16], hash: [u8; 32]) -> [u8; 48]
     b
 }
 
-// They, decrypted under the expanded key of a key.
+// They, decrypted under the expanded key of a key, each block by itself under every scheme.
 fn opened(key: Expanded, fields: [u8; 48]) -> [u8; 48]
     requires { ⌜ (0 < key .rounds) × (key .rounds ≤ 14) ⌝ }
     ensures { λ r. ⌜ ((k : List ℕ) → keyLength (length k) ≡ true → key ≡ expanded k → r ≡ Verifier.verifierOpening k fields) ⌝ }
 {
     let mut plain = [0u8; 48];
-    blocks::decrypt(key, blocks::start(), &fields, 48, &mut plain);
+    blocks::decrypt(key, blocks::ecb(), blocks::start(), &fields, 48, &mut plain);
     plain
 }
 

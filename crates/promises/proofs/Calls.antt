@@ -16,11 +16,11 @@ use Rattle.sha1.specs.Sha1.{hashRules, hashed}
 use Rattle.aes.specs.Aes.{keyLength, encryption, decryption, doneBlock, refusedBlock, encrypted, decrypted}
 use Rattle.descriptor.specs.Info.{parsed}
 use Rattle.password.specs.Verdict.{judged}
-use Rattle.password.specs.Lock.{Lock, lockOf}
+use Rattle.password.specs.Lock.{Lock}
 use Rattle.lengths.specs.Lengths.{streamSize}
 use Rattle.sheet.specs.Sheet.{openRules, packageOf, opened, sealed}
 use Rattle.sheet.proofs.Laws.{open-numbers}
-use Rattle.files.specs.Files.{File, fileRules, units, rules, filesOpened}
+use Rattle.files.specs.Files.{File, fileRules, fileLock, rules, filesOpened}
 use Rattle.files.proofs.Laws.{file-numbered, file-numbers}
 use Rattle.promises.specs.Words.{Parser, Judge, Opener, Sealer}
 use Rattle.promises.specs.Demand1.{Call, Demand1, openNumbers}
@@ -77,8 +77,9 @@ module _ (key block : List ℕ) where
 
 -- ---- the four entries of the demands, and the writer
 
-pub parsing : (info : List ℕ) → Parsing info (parsed info)
-parsing info = record { ends = demand-1 .parsing info; answers = demand-2 .parse-answer info; published = demand-2 .descriptor info }
+pub parsing : (info : List ℕ) (scheme : ℕ) → Parsing info scheme (parsed info scheme)
+parsing info scheme =
+    record { ends = demand-1 .parsing info scheme; answers = demand-2 .parse-answer info scheme; published = demand-2 .descriptor info scheme }
 
 module _ (lock : Lock) where
   pub judging : Judging lock (judged lock)
@@ -125,7 +126,7 @@ seventeen n (inr o) = inr (once 6 17 n openNumbers o)
 
 module _ (info password stream : File) (out : List ℕ) where
   abbrev lock : Lock
-  lock = lockOf (info .bytes) (units (password .bytes))
+  lock = fileLock info password
 
   files-numbers : numbers (rules info password stream (length out)) ≡ replicate 6 17 ++ fileNumbers
   unfolding rules
@@ -153,7 +154,7 @@ module _ (info password stream : File) (out : List ℕ) where
 -- ---- and back: from every call to the demands
 
 module _ (parses : Parser) (judges : Judge) (opens : Opener) (seals : Sealer)
-    (p : (info : List ℕ) → Parsing info (parses info))
+    (p : (info : List ℕ) (scheme : ℕ) → Parsing info scheme (parses info scheme))
     (j : (lock : Lock) → Judging lock (judges lock))
     (o : (lock : Lock) (stream out : List ℕ) → Opening lock stream out (opens lock stream out))
     (s : (lock : Lock) («package» filling : List ℕ) (extra : Bool) (out : List ℕ) → length filling ≡ 16
@@ -161,7 +162,7 @@ module _ (parses : Parser) (judges : Judge) (opens : Opener) (seals : Sealer)
   pub all-calls-1 : Demand1 parses judges opens seals
   all-calls-1 =
       record {
-        parsing = λ info. p info .ends;
+        parsing = λ info scheme. p info scheme .ends;
         judging = λ lock. j lock .ends;
         opening = λ lock stream out. o lock stream out .call;
         sealing = λ lock «package» filling extra out g. s lock «package» filling extra out g .call;
@@ -170,11 +171,11 @@ module _ (parses : Parser) (judges : Judge) (opens : Opener) (seals : Sealer)
   pub all-calls-2 : Demand2 parses judges opens seals
   all-calls-2 =
       record {
-        parse-answer = λ info. p info .answers;
+        parse-answer = λ info scheme. p info scheme .answers;
         verdict-answer = λ lock. j lock .answers;
         open-answer = λ lock stream out. o lock stream out .answers;
         seal-answer = λ lock «package» filling extra out g. s lock «package» filling extra out g .answers;
-        descriptor = λ info. p info .published;
+        descriptor = λ info scheme. p info scheme .published;
         verdict = λ lock. j lock .published;
         opening = λ lock stream out. o lock stream out .published;
         sealing = λ lock «package» filling extra out g. s lock «package» filling extra out g .published;

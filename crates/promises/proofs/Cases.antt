@@ -3,7 +3,7 @@
 use mathlib.Core.Path.{_≡_, refl, sym, ap, _∙_}
 use mathlib.Core.Logic.{inl, inr}
 use mathlib.Core.Bool.{Bool, true, false, not, _&&_}
-use mathlib.Core.List.{List, [], _∷_}
+use mathlib.Core.List.{List, [], _∷_, _++_, append-assoc}
 use Prim.Native.Nat.{ℕ, _+_, _-_, _≤_, _<_}
 use native.Mathlib.Omega.{arith}
 use borrow.Author.Tests.{lt-ltb, le-ltb}
@@ -12,8 +12,8 @@ use lib.ListN.{length, take, drop, take-append-drop}
 use Rattle.answers.specs.Rules.{Rule, firstOf, AllHold}
 use Rattle.answers.proofs.Laws.{either, both, broke, held, all-hold}
 use Rattle.answers.proofs.Rows.{_and_}
-use Rattle.blocks.specs.Blocks.{ecbUnder}
-use Rattle.descriptor.specs.Info.{infoRules, numbersOf, headerSize, sizeExtra, algId, keySize, algorithms, lookUp, suiteOf, badHeaderSize, badName, described, parsed}
+use Rattle.blocks.specs.Blocks.{ecbUnder, chainedUnder}
+use Rattle.descriptor.specs.Info.{infoRules, schemeRules, parseRules, numbersOf, headerSize, sizeExtra, algId, keySize, algorithms, lookUp, suiteOf, badHeaderSize, badName, described, parsed}
 use Rattle.descriptor.proofs.Laws.{parsed-answer, parsed-fields}
 use Rattle.password.specs.Verdict.{judged, keyOf}
 use Rattle.lengths.specs.Lengths.{streamSize, packageLimit, least, takesExtra, fillingFor, rounded, sealedSize, large, lengthRules, sizeRules}
@@ -32,7 +32,7 @@ Ours = Claim parsed judged opened sealed
 -- ---- sealing and opening
 
 chooses-row : (extra : Bool) (size count : ℕ) → fillingFor extra size ≡ count → size ≤ 268435456 → Ours (chooses extra size (8 + (size + count)) count)
-unfolding packageLimit sealedSize rounded sealingOf streamOf filledWith sealing sheetStep stepOf ecbUnder sheetKey keyOf described
+unfolding packageLimit sealedSize rounded sealingOf streamOf filledWith sealing sheetStep stepOf ecbUnder chainedUnder sheetKey keyOf described
 chooses-row extra size count f l lock «package» filling out v n g r =
     let z : fillingFor extra (length «package») ≡ count = ap (fillingFor extra) n ∙ f in
     let k = sealable extra (length «package») (length out) .1 (record { limited = omega arith; roomy = rw z (omega arith) }) in
@@ -64,10 +64,17 @@ module _ (size : ℕ) (h : 268435456 < size) where
 
 -- ---- parsing
 
--- where the first k rules hold those after them decide
-after-first : (k : ℕ) (info : List ℕ) → AllHold (take k (infoRules info)) → parsed info .answer ≡ firstOf (drop k (infoRules info))
-after-first k info h =
-    parsed-answer info ∙ sym (ap firstOf (take-append-drop k (infoRules info))) ∙ all-hold (take k (infoRules info)) (drop k (infoRules info)) h
+-- where the first k rules on EncryptionInfo hold those after them decide, and then the scheme's
+abbrev later : (k : ℕ) (info : List ℕ) (scheme : ℕ) → List Rule
+later k info scheme = drop k (infoRules info) ++ schemeRules scheme
+
+after-first : (k : ℕ) (info : List ℕ) (scheme : ℕ) → AllHold (take k (infoRules info)) → parsed info scheme .answer ≡ firstOf (later k info scheme)
+unfolding parseRules
+after-first k info scheme h =
+    parsed-answer info scheme
+    ∙ ap (λ (rs : List Rule). firstOf (rs ++ schemeRules scheme)) (sym (take-append-drop k (infoRules info)))
+    ∙ ap firstOf (append-assoc (take k (infoRules info)) (drop k (infoRules info)) (schemeRules scheme))
+    ∙ all-hold (take k (infoRules info)) (later k info scheme) h
 
 abbrev above : ℕ → List Rule → Bool
 above m [] = true
@@ -84,41 +91,41 @@ first-above m (r ∷ rs) t h =
       | inr e ↦ rw (held r rs e) (first-above m rs (k .1) (rw (held r rs e) at h))
     ]
 
--- past the first k rules none of their numbers is filling
-past : (k low : ℕ) (info : List ℕ) → 0 < low → T (above k (drop k (infoRules info))) → AllHold (take k (infoRules info))
-    → Outside low k (parsed info .answer)
-past k low info p t h l u =
-    let e : parsed info .answer ≡ firstOf (drop k (infoRules info)) = after-first k info h in
-    let m : k < firstOf (drop k (infoRules info)) = first-above k (drop k (infoRules info)) t (omega arith) in
+-- past the first k rules none of their numbers is given
+past : (k low : ℕ) (info : List ℕ) (scheme : ℕ) → 0 < low → T (above k (later k info scheme)) → AllHold (take k (infoRules info))
+    → Outside low k (parsed info scheme .answer)
+past k low info scheme p t h l u =
+    let e : parsed info scheme .answer ≡ firstOf (later k info scheme) = after-first k info scheme h in
+    let m : k < firstOf (later k info scheme) = first-above k (later k info scheme) t (omega arith) in
     omega arith
 
 p8 : Ours (passes (headerSize is 32 ∷ length is 116 ∷ []) 3 4)
-unfolding infoRules numbersOf badHeaderSize
-p8 info f h = past 4 3 info (lit< tt) tt (h .0 and h .1 .0 and (rw (f .0)) and (rw (f .0, f .1 .0)) and tt)
+unfolding infoRules numbersOf schemeRules badHeaderSize
+p8 info scheme f h = past 4 3 info scheme (lit< tt) tt (h .0 and h .1 .0 and (rw (f .0)) and (rw (f .0, f .1 .0)) and tt)
 
 p8-other : (n : ℕ) → not (eqb n 116) ≡ true → Ours (answers (headerSize is 32 ∷ length is n ∷ []) 4)
 unfolding infoRules numbersOf
-p8-other n e info f h = after-first 3 info h ∙ broke _ _ (rw (f .0, f .1 .0) e)
+p8-other n e info scheme f h = after-first 3 info scheme h ∙ broke _ _ (rw (f .0, f .1 .0) e)
 
 p9 : (n : ℕ) → badHeaderSize n ≡ true → Ours (answers (headerSize is n ∷ []) 3)
 unfolding infoRules numbersOf
-p9 n e info f h = after-first 2 info h ∙ broke _ _ (rw (f .0) e)
+p9 n e info scheme f h = after-first 2 info scheme h ∙ broke _ _ (rw (f .0) e)
 
 p10 : (x count : ℕ) → badName 140 x ≡ false → 140 - 32 - x ≡ count
     → Ours (names (headerSize is 140 ∷ length is 224 ∷ sizeExtra is x ∷ []) count)
-unfolding infoRules numbersOf badHeaderSize described
-p10 x count e c info f h = (
-  past 5 3 info (lit< tt) tt (h .0 and h .1 .0 and (rw (f .0)) and (rw (f .0, f .1 .0)) and (rw (f .0, f .1 .1 .0) e) and tt),
-  λ z. rw (parsed-fields info (sym (parsed-answer info) ∙ z)) (rw (f .0, f .1 .1 .0) c),
+unfolding infoRules numbersOf schemeRules badHeaderSize described
+p10 x count e c info scheme f h = (
+  past 5 3 info scheme (lit< tt) tt (h .0 and h .1 .0 and (rw (f .0)) and (rw (f .0, f .1 .0)) and (rw (f .0, f .1 .1 .0) e) and tt),
+  λ z. rw (parsed-fields info scheme (sym (parsed-answer info scheme) ∙ z)) (rw (f .0, f .1 .1 .0) c),
 )
 
 p11 : (x : ℕ) → badName 140 x ≡ true → Ours (answers (headerSize is 140 ∷ length is 224 ∷ sizeExtra is x ∷ []) 5)
 unfolding infoRules numbersOf
-p11 x e info f h = after-first 4 info h ∙ broke _ _ (rw (f .0, f .1 .1 .0) e)
+p11 x e info scheme f h = after-first 4 info scheme h ∙ broke _ _ (rw (f .0, f .1 .1 .0) e)
 
 p12 : Ours (answers (algId is 0x660f ∷ keySize is 128 ∷ []) 8)
 unfolding infoRules numbersOf algorithms lookUp suiteOf
-p12 info f h = after-first 7 info h ∙ broke _ _ (rw (f .0, f .1 .0))
+p12 info scheme f h = after-first 7 info scheme h ∙ broke _ _ (rw (f .0, f .1 .0))
 
 -- ---- the table
 

@@ -1,5 +1,6 @@
 -- A sealer and an opener that copy without encrypting keep demand 3: an operation that does nothing is reversible. What stops them is
--- demand 2, which says by which operation: they would keep it only if AES left every block as it is. Assumes nothing.
+-- demand 2, which says by which operation: they would keep it only if the published scheme left every single block as it is. Assumes
+-- nothing.
 use mathlib.Core.Path.{_≡_, refl, sym, ap, _∙_}
 use mathlib.Core.Bool.{Bool}
 use mathlib.Core.List.{List}
@@ -13,7 +14,6 @@ use Rattle.octets.specs.Octets.{Bytes}
 use Rattle.answers.specs.Rules.{firstOf}
 use Rattle.answers.specs.Ended.{Left, ended, gives}
 use Rattle.answers.proofs.Endings.{ended-answer}
-use Rattle.aes.specs.Aes.{decryption}
 use Rattle.steps.specs.Stream.{Undone}
 use Rattle.steps.specs.Steps.{whole}
 use Rattle.password.specs.Verdict.{judged}
@@ -26,11 +26,11 @@ use Rattle.sheet.specs.Sheet.{lengths, openRules, packageRules, sealRules, fill
 use Rattle.sheet.proofs.Frame.{inverse, one-pair, length-streamOf, size-streamOf, length-package}
 use Rattle.sheet.proofs.Lengths.{Openable, openable, openable-admitted, admitted-openable, Sealable, sealable}
 use Rattle.sheet.proofs.Laws.{open-answer, open-done, open-zero, seal-answer, seal-done, seal-zero, filled-begins}
-use Rattle.promises.specs.Words.{Parser, Judge, Opener, Sealer, Accepted, publishedKey}
+use Rattle.promises.specs.Words.{Parser, Judge, Opener, Sealer, Accepted}
 use Rattle.promises.specs.Demand2.{Demand2}
 use Rattle.promises.specs.Demand3.{Begins, Demand3}
 use Rattle.promises.proofs.Inverts.{Own, Inverts, exact}
-use Rattle.promises.proofs.Wrong.{OpensBy, other-opening}
+use Rattle.promises.proofs.Wrong.{OpensBy, openedBlock, other-opening}
 
 same : Operation
 same size s = s
@@ -152,9 +152,9 @@ copy-opens lock s out a =
     let r : length (take (streamSize s) (drop 8 s)) ≡ streamSize s = length-take-le (streamSize s) (drop 8 s) (omega (arith, fitting-holds _ _ (k .fits))) in
     rw z (take-at (take (streamSize s) (drop 8 s)) (replicate (length out - streamSize s) 0) (streamSize s) r)
 
--- so they keep demand 2 only where AES under every accepted key leaves every block as it is
+-- so they keep demand 2 only where the published scheme leaves every single block as it is, under every accepted lock
 pub copies-keep-2-only : (parses : Parser) (judges : Judge) (seals : Sealer) → Demand2 parses judges copies-out seals
-    → (lock : Lock) (c : List ℕ) → judged lock ≡ 0 → length c ≡ 16 → decryption (publishedKey lock) c ≡ c
+    → (lock : Lock) (c : List ℕ) → judged lock ≡ 0 → length c ≡ 16 → openedBlock lock c ≡ c
 copies-keep-2-only parses judges seals two lock c v n =
     sym (other-opening parses judges copies-out seals two (λ lock ciphertext. ciphertext) copy-opens lock c v n)
     ∙ take-all 16 c (omega arith)

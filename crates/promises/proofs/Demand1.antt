@@ -6,22 +6,22 @@ use Prim.Native.Nat.{ℕ, _≤_}
 use lib.ListN.{length}
 use Rattle.answers.specs.Rules.{firstOf}
 use Rattle.answers.proofs.Laws.{listed-in}
-use Rattle.descriptor.specs.Info.{infoRules, parsed}
-use Rattle.descriptor.proofs.Laws.{info-numbers, parsed-answer, refused-fields}
+use Rattle.descriptor.specs.Info.{parseRules, parsed}
+use Rattle.descriptor.proofs.Laws.{parse-numbers, parsed-answer, refused-fields}
 use Rattle.password.specs.Verdict.{judged, verdictRules}
 use Rattle.password.specs.Lock.{Lock}
 use Rattle.password.proofs.Laws.{verdict-numbers}
 use Rattle.lengths.specs.Lengths.{streamSize, sealedSize}
 use Rattle.sheet.specs.Sheet.{openRules, sealRules, packageOf, filledWith, sealingOf, opened, sealed}
 use Rattle.sheet.proofs.Laws.{open-numbers, open-answer, open-zero, seal-numbers, seal-answer, seal-zero, length-package, length-sealing, length-filling}
-use Rattle.promises.specs.Demand1.{Parse, Call, Demand1, infoNumbers, verdictNumbers, openNumbers, sealNumbers}
+use Rattle.promises.specs.Demand1.{Parse, Call, Demand1, parseNumbers, verdictNumbers, openNumbers, sealNumbers}
 use Rattle.promises.proofs.Ended.{ended-call}
 
-parse : (info : List ℕ) → Parse (parsed info)
-parse info =
+parse : (info : List ℕ) (scheme : ℕ) → Parse (parsed info scheme)
+parse info scheme =
     record {
-      answer = rw (parsed-answer info) (listed-in (infoRules info) infoNumbers (info-numbers info));
-      refused = λ h. record { none = refl; same = refused-fields info (λ z. h (parsed-answer info ∙ z)) };
+      answer = rw (parsed-answer info scheme) (listed-in (parseRules info scheme) parseNumbers (parse-numbers info scheme));
+      refused = λ h. record { none = refl; same = refused-fields info scheme (λ z. h (parsed-answer info scheme ∙ z)) };
     }
 
 module _ (lock : Lock) where
@@ -55,7 +55,7 @@ pub demand-1 : Demand1 parsed judged opened sealed
 unfolding judged
 demand-1 =
     record {
-      parsing = λ info. parse info;
+      parsing = parse;
       judging = λ lock. record { answer = listed-in (verdictRules lock) verdictNumbers (verdict-numbers lock); refused = λ h. record { none = refl; same = refl } };
       opening = λ lock s out. open-call lock s out;
       sealing = λ lock «package» filling extra out g. seal-call lock «package» filling extra out g;

@@ -9,12 +9,12 @@ use Rattle.octets.proofs.Equal.{same-self, same-true}
 use Rattle.answers.specs.Rules.{AllHold}
 use Rattle.answers.specs.Ended.{ended}
 use Rattle.answers.proofs.Laws.{none-broken, both-hold}
-use Rattle.blocks.specs.Blocks.{ecbUnder}
-use Rattle.descriptor.specs.Info.{infoRules, described, parsed}
-use Rattle.descriptor.proofs.Laws.{info-numbered, parsed-answer, parsed-fields}
+use Rattle.blocks.specs.Blocks.{ecbUnder, chainedUnder}
+use Rattle.descriptor.specs.Info.{infoRules, schemeRules, parseRules, described, parsed}
+use Rattle.descriptor.proofs.Laws.{scheme-numbered, scheme-known, parse-numbered, parsed-answer, parsed-fields}
 use Rattle.password.specs.Verifier.{verifierOpening, matches}
 use Rattle.password.specs.Verdict.{keyOf, earlyRules, textRules, verifierRules, verdictRules, judged}
-use Rattle.password.specs.Lock.{Lock}
+use Rattle.password.specs.Lock.{Lock, descriptorOf}
 use Rattle.password.proofs.Laws.{verdict-numbered}
 use Rattle.lengths.specs.Lengths.{streamSize, rounded, sealedSize}
 use Rattle.sheet.specs.Frame.{streamOf, pairOf}
@@ -26,30 +26,34 @@ use Rattle.promises.proofs.Ended.{by-rules}
 
 module _ (lock : Lock) where
   to-verdict : judged lock ≡ 0 → Accepts lock
-  unfolding judged verdictRules earlyRules textRules verifierRules keyOf described matches verifierOpening ecbUnder
+  unfolding judged verdictRules earlyRules parseRules textRules verifierRules keyOf described matches verifierOpening ecbUnder
   to-verdict h =
       let all : AllHold (verdictRules lock) = none-broken (verdictRules lock) (verdict-numbered lock) .0 h in
-      let k = both-hold (earlyRules lock) (verifierRules (described (lock .info)) (lock .password)) .0 all in
-      let e = both-hold (infoRules (lock .info)) (textRules (lock .password)) .0 (k .0) in
-      (e .0, ltb-false _ _ (e .1 .0), same-true _ _ (not-false _ (k .1 .0)))
+      let k = both-hold (earlyRules lock) (verifierRules (descriptorOf lock) (lock .password)) .0 all in
+      let e = both-hold (parseRules (lock .info) (lock .scheme)) (textRules (lock .password)) .0 (k .0) in
+      let p = both-hold (infoRules (lock .info)) (schemeRules (lock .scheme)) .0 (e .0) in
+      let s = scheme-known (lock .scheme) .0 (none-broken (schemeRules (lock .scheme)) (scheme-numbered (lock .scheme)) .1 (p .1)) in
+      (p .0, s, ltb-false _ _ (e .1 .0), same-true _ _ (not-false _ (k .1 .0)))
 
   of-verdict : Accepts lock → judged lock ≡ 0
-  unfolding judged verdictRules earlyRules textRules verifierRules keyOf described matches verifierOpening ecbUnder
+  unfolding judged verdictRules earlyRules parseRules textRules verifierRules keyOf described matches verifierOpening ecbUnder
   of-verdict h =
-      let e = both-hold (infoRules (lock .info)) (textRules (lock .password)) .1 (h .0, (le-ltb _ _ (h .1), tt)) in
+      let s = none-broken (schemeRules (lock .scheme)) (scheme-numbered (lock .scheme)) .0 (scheme-known (lock .scheme) .1 (h .1)) in
+      let p = both-hold (infoRules (lock .info)) (schemeRules (lock .scheme)) .1 (h .0, s) in
+      let e = both-hold (parseRules (lock .info) (lock .scheme)) (textRules (lock .password)) .1 (p, (le-ltb _ _ (h .2), tt)) in
       none-broken (verdictRules lock) (verdict-numbered lock)
-      .1 (both-hold (earlyRules lock) (verifierRules (described (lock .info)) (lock .password)) .1 (e, (rw (h .2, same-self), tt)))
+      .1 (both-hold (earlyRules lock) (verifierRules (descriptorOf lock) (lock .password)) .1 (e, (rw (h .3, same-self), tt)))
 
   open-gives : (stream out : List ℕ) → AllHold (openRules lock stream (length out))
       → opened lock stream out ≡ publishedPackage lock stream out
-  unfolding opened ended packageOf pairOf streamSize opening sheetStep stepOf ecbUnder sheetKey keyOf described
+  unfolding opened ended packageOf pairOf streamSize opening sheetStep stepOf ecbUnder chainedUnder sheetKey keyOf described
   open-gives s out h =
       ap (λ (n : ℕ). ended n (streamSize s) (packageOf lock s) out)
       (none-broken (openRules lock s (length out)) (open-numbered lock s out) .1 h)
 
   seal-gives : («package» filling : List ℕ) (extra : Bool) (out : List ℕ) → AllHold (sealRules lock extra (length «package») (length out))
       → sealed lock «package» filling extra out ≡ publishedStream lock «package» filling extra out
-  unfolding sealed ended sealedSize rounded sealingOf streamOf filledWith sealing sheetStep stepOf ecbUnder sheetKey keyOf described
+  unfolding sealed ended sealedSize rounded sealingOf streamOf filledWith sealing sheetStep stepOf ecbUnder chainedUnder sheetKey keyOf described
   seal-gives «package» filling extra out h =
       ap (λ (n : ℕ). ended n (sealedSize extra (length «package»)) (sealingOf lock (filledWith «package» filling extra)) out)
       (none-broken (sealRules lock extra (length «package») (length out)) (seal-numbered lock «package» filling extra out) .1 h)
@@ -58,14 +62,14 @@ pub demand-2 : Demand2 parsed judged opened sealed
 unfolding judged
 demand-2 =
     record {
-      parse-answer = λ info. rw (parsed-answer info) (by-rules (infoRules info) (info-numbered info));
+      parse-answer = λ info scheme. rw (parsed-answer info scheme) (by-rules (parseRules info scheme) (parse-numbered info scheme));
       verdict-answer = λ lock. by-rules (verdictRules lock) (verdict-numbered lock);
       open-answer = λ lock s out.
           rw (open-answer lock s out) (by-rules (openRules lock s (length out)) (open-numbered lock s out));
       seal-answer = λ lock «package» filling extra out g.
           rw (seal-answer lock «package» filling extra out)
           (by-rules (sealRules lock extra (length «package») (length out)) (seal-numbered lock «package» filling extra out));
-      descriptor = λ info h. parsed-fields info (none-broken (infoRules info) (info-numbered info) .1 h);
+      descriptor = λ info scheme h. parsed-fields info scheme (none-broken (parseRules info scheme) (parse-numbered info scheme) .1 h);
       verdict = λ lock. (λ h. to-verdict lock h, λ h. of-verdict lock h);
       opening = λ lock s out h. open-gives lock s out h;
       sealing = λ lock «package» filling extra out g h. seal-gives lock «package» filling extra out h;

@@ -8,7 +8,7 @@ use native.Mathlib.Omega.{arith}
 use lib.ListN.{length, replicate}
 use Rattle.answers.specs.Rules.{Rule}
 use Rattle.answers.specs.Ended.{Left, left, reply}
-use Rattle.descriptor.specs.Info.{infoRules, parsed}
+use Rattle.descriptor.specs.Info.{parseRules, parsed}
 use Rattle.password.specs.Verdict.{judged, verdictRules}
 use Rattle.password.specs.Lock.{Lock}
 use Rattle.sheet.specs.Sheet.{openRules, sealRules, packageOf, filledWith, sealingOf, opened, sealed}
@@ -50,19 +50,20 @@ module _ (parses : Parser) (judges : Judge) (opens : Opener) (seals : Sealer)
   pub the-judge : (lock : Lock) → judges lock ≡ judged lock
   the-judge lock = one-answer (verdictRules lock) _ _ (two .verdict-answer lock) (demand-2 .verdict-answer lock)
 
-  module _ (info : List ℕ) where
-    same-answer : parses info .answer ≡ parsed info .answer
-    same-answer = one-answer (infoRules info) _ _ (two .parse-answer info) (demand-2 .parse-answer info)
+  module _ (info : List ℕ) (scheme : ℕ) where
+    same-answer : parses info scheme .answer ≡ parsed info scheme .answer
+    same-answer = one-answer (parseRules info scheme) _ _ (two .parse-answer info scheme) (demand-2 .parse-answer info scheme)
 
-    same-fields : (n : ℕ) → parses info .answer ≡ n → parses info .fields ≡ parsed info .fields
+    same-fields : (n : ℕ) → parses info scheme .answer ≡ n → parses info scheme .fields ≡ parsed info scheme .fields
     same-fields zero z =
-        let h = two .parse-answer info .none .0 z in
-        two .descriptor info h ∙ sym (demand-2 .descriptor info h)
+        let h = two .parse-answer info scheme .none .0 z in
+        two .descriptor info scheme h ∙ sym (demand-2 .descriptor info scheme h)
     same-fields (suc n) z =
-        one .parsing info .refused (λ w. omega arith) .same ∙ sym (demand-1 .parsing info .refused (λ w. omega (arith, same-answer)) .same)
+        one .parsing info scheme .refused (λ w. omega arith) .same
+        ∙ sym (demand-1 .parsing info scheme .refused (λ w. omega (arith, same-answer)) .same)
 
-    pub the-parser : parses info ≡ parsed info
-    the-parser = λ i. record { answer = same-answer i; fields = same-fields (parses info .answer) refl i }
+    pub the-parser : parses info scheme ≡ parsed info scheme
+    the-parser = λ i. record { answer = same-answer i; fields = same-fields (parses info scheme .answer) refl i }
 
   pub the-opener : (lock : Lock) (stream out : List ℕ) → opens lock stream out ≡ opened lock stream out
   the-opener lock s out =

@@ -11,7 +11,7 @@ use Rattle.answers.proofs.Laws.{listed-in}
 use Rattle.blocks.specs.Blocks.{ecbUnder}
 use Rattle.descriptor.specs.Info.{parsed}
 use Rattle.descriptor.specs.declared.Descriptor.{Descriptor}
-use Rattle.descriptor.proofs.Laws.{parsed-answer, parsed-fields}
+use Rattle.descriptor.proofs.Laws.{Parses, both-parse, parsed-answer, parsed-fields}
 use Rattle.password.specs.Verifier.{verifierSealing, verifierPlain, verifierField, hashField}
 use Rattle.password.specs.Lock.{lockOf}
 use Rattle.password.specs.Verdict.{judged}
@@ -20,7 +20,7 @@ use Rattle.writer.specs.Written.{infoSize}
 use Rattle.writer.specs.Written as Written
 use Rattle.writer.proofs.Laws.{writable, write-numbered, write-numbers, write-answer, write-done}
 use Rattle.writer.proofs.Back.{Given, newDescriptor, info-admitted, info-described, info-name, info-accepted, length-info}
-use Rattle.promises.specs.Words.{Accepted, writtenPart}
+use Rattle.promises.specs.Words.{Scheme, Accepted, writtenPart}
 use Rattle.promises.specs.Demand1.{Call}
 use Rattle.promises.specs.NewInfo.{Input, Typed, Writer, Within, rulesFor, infoFor, writeNumbers, GivesBack, NewInfo}
 use Rattle.promises.proofs.Ended.{ended-call, by-rules}
@@ -79,32 +79,35 @@ module _ (i : Input) (out : List ℕ) (t : Typed i) where
     size : writes i out .reply .size ≡ 116 + length (i .name)
     size = call .accepted a .size ∙ long zero-is
 
-    fields : parsed (infoFor i) .fields ≡ newDescriptor (i .bits) (i .password) (i .name) (i .salt) (i .verifier) (i .filling)
-    fields =
-        let g = given zero-is in
-        parsed-fields (infoFor i) (info-admitted _ _ _ _ _ _ g) ∙ info-described _ _ _ _ _ _ g
+    module _ (scheme : ℕ) (k : Scheme scheme) where
+      parses : Parses (infoFor i) scheme
+      parses = both-parse (infoFor i) scheme (info-admitted _ _ _ _ _ _ (given zero-is)) k
 
-    back : GivesBack parsed judged i (infoFor i)
-    unfolding verifierField hashField verifierSealing verifierPlain ecbUnder
-    back =
-        let g = given zero-is in
-        record {
-          answer = parsed-answer (infoFor i) ∙ info-admitted _ _ _ _ _ _ g;
-          major = ap (λ (d : Descriptor). d .major) fields;
-          minor = ap (λ (d : Descriptor). d .minor) fields;
-          alg = ap (λ (d : Descriptor). d .«alg_id») fields;
-          key = ap (λ (d : Descriptor). d .«key_size» .0) fields;
-          place = ap (λ (d : Descriptor). d .«name_place») fields;
-          name = ap (λ (d : Descriptor). d .«name_length») fields;
-          salt = ap (λ (d : Descriptor). d .salt) fields;
-          verifier = ap (λ (d : Descriptor). d .«encrypted_verifier») fields;
-          hash = ap (λ (d : Descriptor). d .«encrypted_verifier_hash») fields;
-          named = info-name _ _ _ _ _ _ g;
-          verdict = info-accepted _ _ _ _ _ _ g;
-        }
+      fields : parsed (infoFor i) scheme .fields ≡ newDescriptor (i .bits) (i .password) (i .name) (i .salt) (i .verifier) (i .filling) scheme
+      fields = parsed-fields (infoFor i) scheme parses ∙ info-described _ _ _ _ _ _ (given zero-is) scheme
 
-    written-back : GivesBack parsed judged i (writtenPart (writes i out))
-    written-back = subst⁻¹ (GivesBack parsed judged i) wrote back
+      back : GivesBack parsed judged i (infoFor i) scheme
+      unfolding verifierField hashField verifierSealing verifierPlain ecbUnder
+      back =
+          let g = given zero-is in
+          record {
+            answer = parsed-answer (infoFor i) scheme ∙ parses;
+            major = ap (λ (d : Descriptor). d .major) fields;
+            minor = ap (λ (d : Descriptor). d .minor) fields;
+            alg = ap (λ (d : Descriptor). d .«alg_id») fields;
+            key = ap (λ (d : Descriptor). d .«key_size» .0) fields;
+            place = ap (λ (d : Descriptor). d .«name_place») fields;
+            name = ap (λ (d : Descriptor). d .«name_length») fields;
+            salt = ap (λ (d : Descriptor). d .salt) fields;
+            verifier = ap (λ (d : Descriptor). d .«encrypted_verifier») fields;
+            hash = ap (λ (d : Descriptor). d .«encrypted_verifier_hash») fields;
+            scheme-is = ap (λ (d : Descriptor). d .scheme) fields;
+            named = info-name _ _ _ _ _ _ g;
+            verdict = info-accepted _ _ _ _ _ _ g scheme k;
+          }
+
+      written-back : GivesBack parsed judged i (writtenPart (writes i out)) scheme
+      written-back = subst⁻¹ (λ (info : List ℕ). GivesBack parsed judged i info scheme) wrote back
 
 pub new-info : NewInfo writes parsed judged opened sealed
 new-info =
@@ -114,5 +117,6 @@ new-info =
       call = call;
       size = size;
       back = written-back;
-      opening = λ i out t a p w. demand-3 .under (lockOf (writtenPart (writes i out)) (i .password)) (written-back i out t a .verdict) .a p w;
+      opening = λ i out t a scheme k p w.
+          demand-3 .under (lockOf (writtenPart (writes i out)) (i .password) scheme) (written-back i out t a scheme k .verdict) .a p w;
     }

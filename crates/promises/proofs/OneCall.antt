@@ -14,18 +14,18 @@ use Rattle.sha1.specs.Sha1.{sha1, hashRules, hashed}
 use Rattle.sha1.specs.declared.Hashed.{Hashed}
 use Rattle.aes.specs.Aes.{encryption, decryption, encrypted, decrypted}
 use Rattle.aes.specs.declared.Reply as Aes
-use Rattle.descriptor.specs.Info.{infoRules, described, parsed}
+use Rattle.descriptor.specs.Info.{parseRules, described, parsed}
 use Rattle.descriptor.specs.declared.Parsed.{Parsed}
 use Rattle.password.specs.Verdict.{judged, verdictRules}
-use Rattle.password.specs.Lock.{Lock, lockOf}
+use Rattle.password.specs.Lock.{Lock}
 use Rattle.sheet.specs.Sheet.{openRules, sealRules, packageOf, filledWith, sealingOf, opened, sealed}
 use Rattle.crossing.specs.Crossing.{told, sixteen, twelve, bitCount, chosen, descriptorBytes}
 use Rattle.crossing.proofs.Lossless.{length-sixteen, length-twelve}
 use Rattle.capi.specs.Capi as Capi
 use Rattle.capi.proofs.Told.{verdict-told, open-told, seal-told, write-told}
-use Rattle.files.specs.Files.{File, units, rules, filesOpened}
+use Rattle.files.specs.Files.{File, fileLock, rules, filesOpened}
 use Rattle.promises.specs.Words.{Answers}
-use Rattle.promises.specs.Demand1.{Concludes, infoNumbers, openNumbers, sealNumbers}
+use Rattle.promises.specs.Demand1.{Concludes, parseNumbers, openNumbers, sealNumbers}
 use Rattle.promises.specs.NewInfo.{Input, Typed, rulesFor, infoFor, writeNumbers}
 use Rattle.promises.proofs.NewInfo.{writes}
 use Rattle.promises.proofs.Fixed.{one-answer, one-left}
@@ -77,10 +77,10 @@ module _ (key block : List ℕ) (r : Aes.Reply) where
   pub one-decrypting : Enciphering decryption key block r → r ≡ decrypted key block
   one-decrypting k = one-enciphering decryption key block r _ k (decrypting key block)
 
-pub one-parsing : (info : List ℕ) (p : Parsed) → Parsing info p → p ≡ parsed info
-one-parsing info p k =
-    let d = parsing info in
-    let e = one-ruled (infoRules info) _ _ (described info) _ _ _ _ (k .answers) (d .answers) (k .ends) (d .ends) (k .published) (d .published) in
+pub one-parsing : (info : List ℕ) (scheme : ℕ) (p : Parsed) → Parsing info scheme p → p ≡ parsed info scheme
+one-parsing info scheme p k =
+    let d = parsing info scheme in
+    let e = one-ruled (parseRules info scheme) _ _ (described info scheme) _ _ _ _ (k .answers) (d .answers) (k .ends) (d .ends) (k .published) (d .published) in
     λ i. record { answer = e .0 i; fields = e .1 i }
 
 pub one-judging : (lock : Lock) (n : ℕ) → Judging lock n → n ≡ judged lock
@@ -106,7 +106,7 @@ one-writing i out t l k =
 pub one-files : (info password stream : File) (out : List ℕ) (l : Left) → FilesOpening info password stream out l → l ≡ filesOpened info password stream out
 one-files info password s out l k =
     let d = opening-files info password s out in
-    one-left fileNumbers (packageOf (lockOf (info .bytes) (units (password .bytes))) (s .bytes)) out _ _ (k .call) (d .call)
+    one-left fileNumbers (packageOf (fileLock info password) (s .bytes)) out _ _ (k .call) (d .call)
     (one-answer (rules info password s (length out)) _ _ (k .answers) (d .answers))
 
 -- ---- the same from C
@@ -145,11 +145,12 @@ module _ (w : ℕ) (now : List ℕ) where
     pub c-decrypting : BlockOut decryption key (sixteen low high) out (left (told w) now) → Capi.outcome w now ≡ Capi.decryptOutcome key low high out
     c-decrypting k = one-outcome w now _ (one-block decryption key _ out _ _ k (decrypt-out key low high out))
 
-  pub c-parsing : (info out : List ℕ) → DescriptorOut info out (left (told w) now) → Capi.outcome w now ≡ Capi.parseOutcome info out
-  c-parsing info out k =
-      let d = descriptor-out info out in
+  pub c-parsing : (info : List ℕ) (scheme : ℕ) (out : List ℕ) → DescriptorOut info scheme out (left (told w) now) → Capi.outcome w now ≡ Capi.parseOutcome info scheme out
+  c-parsing info scheme out k =
+      let d = descriptor-out info scheme out in
       one-outcome w now _
-      (one-value infoNumbers (descriptorBytes (described info)) out _ _ (k .value) (d .value) (one-answer (infoRules info) _ _ (k .answers) (d .answers)))
+      (one-value parseNumbers (descriptorBytes (described info scheme)) out _ _ (k .value) (d .value)
+      (one-answer (parseRules info scheme) _ _ (k .answers) (d .answers)))
 
   pub c-judging : (lock : Lock) → VerdictOut lock (told w) → w ≡ Capi.verdictWord lock
   c-judging lock k =

@@ -13,14 +13,14 @@ use Rattle.answers.specs.declared.Reply.{Reply}
 use Rattle.sha1.specs.Sha1.{sha1, hashRules, hashed}
 use Rattle.aes.specs.Aes.{keyLength, encryption, decryption, encrypted, decrypted}
 use Rattle.aes.specs.declared.Reply as Aes
-use Rattle.descriptor.specs.Info.{infoRules, described, parsed}
+use Rattle.descriptor.specs.Info.{parseRules, described, parsed}
 use Rattle.password.specs.Lock.{Lock}
 use Rattle.crossing.specs.Crossing.{told, sixteen, twelve, bitCount, chosen, descriptorBytes}
 use Rattle.crossing.proofs.Lossless.{length-sixteen, length-twelve}
 use Rattle.capi.specs.Capi as Capi
 use Rattle.capi.proofs.Told.{hash-told, encrypt-told, decrypt-told, parse-told, verdict-told, open-told, seal-told, write-told}
 use Rattle.promises.specs.Words.{Answers}
-use Rattle.promises.specs.Demand1.{infoNumbers}
+use Rattle.promises.specs.Demand1.{parseNumbers}
 use Rattle.promises.proofs.NewInfo.{writes}
 use Rattle.promises.specs.EveryCall.{hashNumbers, blockNumbers}
 use Rattle.promises.specs.Calls.{Enciphering, Opening, Sealing, Writing, Value, HashOut, BlockOut, DescriptorOut, VerdictOut, input}
@@ -71,14 +71,14 @@ module _ (key : List ℕ) (low high : ℕ) (out : List ℕ) where
   unfolding Capi.decryptOutcome
   decrypt-out = block-out decryption key _ out (decrypted key (sixteen low high)) (decrypting key _) (decrypt-told key low high out)
 
-pub descriptor-out : (info out : List ℕ) → DescriptorOut info out (Capi.readBack (Capi.parseOutcome info out))
+pub descriptor-out : (info : List ℕ) (scheme : ℕ) (out : List ℕ) → DescriptorOut info scheme out (Capi.readBack (Capi.parseOutcome info scheme out))
 unfolding Capi.parseOutcome
-descriptor-out info out =
-    let k = parsing info in
+descriptor-out info scheme out =
+    let k = parsing info scheme in
     record {
-      value = valued infoNumbers (parsed info .answer) _ (descriptorBytes (described info)) out (k .ends .answer)
-          (λ z. ap descriptorBytes (k .published (k .answers .none .0 z))) (parse-told info out);
-      answers = subst⁻¹ (λ (r : Reply). Answers (infoRules info) (r .answer)) (parse-told info out) (k .answers);
+      value = valued parseNumbers (parsed info scheme .answer) _ (descriptorBytes (described info scheme)) out (k .ends .answer)
+          (λ z. ap descriptorBytes (k .published (k .answers .none .0 z))) (parse-told info scheme out);
+      answers = subst⁻¹ (λ (r : Reply). Answers (parseRules info scheme) (r .answer)) (parse-told info scheme out) (k .answers);
     }
 
 module _ (lock : Lock) where

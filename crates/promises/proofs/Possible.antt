@@ -1,5 +1,6 @@
 -- Instances of what the promises take for granted. Nothing is computed on a package: its length is a law. Assumes nothing.
 use mathlib.Core.Path.{_≡_, refl, ap, _∙_}
+use mathlib.Core.Logic.{inl, inr}
 use mathlib.Core.Bool.{Bool, true, false}
 use mathlib.Core.List.{List, [], _∷_, _++_, flatMap}
 use Prim.Native.Nat.{ℕ, _-_, _%_, _^_, _≤_, _<_}
@@ -23,6 +24,7 @@ use Rattle.sheet.specs.Sheet.{lengths, filledWith}
 use Rattle.sheet.proofs.Laws.{filled-lawful, length-filling, filling-chosen}
 use Rattle.writer.specs.Written.{infoOf}
 use Rattle.writer.proofs.Back.{Given, info-bytes, info-bits, info-accepted}
+use Rattle.promises.specs.Words.{Scheme}
 use Rattle.promises.specs.ExtraBlock.{Takes}
 use Rattle.promises.specs.Cases.{table}
 use Rattle.promises.specs.Possible.{Locks, Fills, Begun, Long, Told, Instances, Possible}
@@ -30,13 +32,14 @@ use Rattle.promises.specs.Possible.{Locks, Fills, Begun, Long, Told, Ins
 -- ---- accepted passwords
 
 -- the writer makes an EncryptionInfo for each: here with no name, and zeros for salt, verifier and filling
-locks : (bits : ℕ) → OneOf (128 ∷ 192 ∷ 256 ∷ []) bits → (password : List ℕ) → length password ≤ 255 → Locks judged bits password
-locks bits k password l =
+locks : (bits : ℕ) → OneOf (128 ∷ 192 ∷ 256 ∷ []) bits → (password : List ℕ) → length password ≤ 255
+    → (scheme : ℕ) → Scheme scheme → Locks judged bits password scheme
+locks bits k password l scheme o =
     record {
       info = infoOf bits password [] (replicate 16 0) (replicate 16 0) (replicate 12 0);
       bytes = info-bytes bits password [] _ _ _ filling nil-bytes (zeros 16) (zeros 16) (zeros 12);
       size = info-bits bits password [] _ _ _ filling;
-      verdict = info-accepted bits password [] _ _ _ filling;
+      verdict = info-accepted bits password [] _ _ _ filling scheme o;
     }
   where
     zeros : (n : ℕ) → Bytes (replicate n 0)
@@ -139,8 +142,14 @@ sample header extra alg bits name n =
       encryptedVerifierHash = replicate n 0;
     })
 
+-- what nothing objects to under either scheme
+either-way : (info : List ℕ) → parsed info 1 .answer ≡ 0 → parsed info 2 .answer ≡ 0 → (scheme : ℕ) → Scheme scheme → parsed info scheme .answer ≡ 0
+either-way info a b scheme (inl e) = rw e a
+either-way info a b scheme (inr (inl e)) = rw e b
+either-way info a b scheme (inr (inr e)) = absurd e
+
 rows : Instances parsed table
-unfolding sample laidOut front verifier flatMap leBytes leAt le parsed firstOf Info.infoRules Info.numbersOf Info.major Info.minor Info.headerSize Info.sizeExtra Info.algId
+unfolding sample laidOut front verifier flatMap leBytes leAt le parsed firstOf Info.parseRules Info.schemeRules Info.badScheme Info.infoRules Info.numbersOf Info.major Info.minor Info.headerSize Info.sizeExtra Info.algId
     Info.algIdHash Info.keySize Info.saltSize Info.verifierHashSize Info.badVersion Info.badHeaderSize Info.badName Info.algorithms Info.lookUp Info.suiteOf
 rows =
     (λ extra. (fills extra 0 (lit≤ tt), long 8))  -- P1
@@ -158,8 +167,8 @@ rows =
     and (sample 32 0 0x660e 128 0 33, refl and refl and tt, refl and refl and refl and tt)
     and (sample 31 0 0x660e 128 0 31, refl and tt, refl and refl and tt)  -- P9
     and (sample 4097 0 0x660e 128 0 32, refl and tt, refl and refl and tt)
-    and (sample 140 0 0x660e 128 108 32, refl and refl and refl and tt, refl and refl and tt, refl)  -- P10
-    and (sample 140 108 0x660e 128 108 32, refl and refl and refl and tt, refl and refl and tt, refl)
+    and (sample 140 0 0x660e 128 108 32, refl and refl and refl and tt, refl and refl and tt, either-way (sample 140 0 0x660e 128 108 32) refl refl)  -- P10
+    and (sample 140 108 0x660e 128 108 32, refl and refl and refl and tt, refl and refl and tt, either-way (sample 140 108 0x660e 128 108 32) refl refl)
     and (sample 140 107 0x660e 128 108 32, refl and refl and refl and tt, refl and refl and refl and refl and tt)  -- P11
     and (sample 140 109 0x660e 128 108 32, refl and refl and refl and tt, refl and refl and refl and refl and tt)
     and (sample 32 0 0x660f 128 0 32, refl and refl and tt, refl and refl and refl and refl and refl and refl and refl and tt)  -- P12

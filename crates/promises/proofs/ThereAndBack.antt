@@ -26,7 +26,7 @@ use Rattle.sheet.specs.Sheet.{lengths, packageRules, sealRules, packageOf, fill
 use Rattle.sheet.proofs.Lengths.{sealable}
 use Rattle.sheet.proofs.Laws.{open-zero, seal-answer, seal-zero, seal-done, filled-lawful, length-filling}
 use Rattle.sheet.proofs.Pairs.{stream-package, stream-opens}
-use Rattle.promises.specs.Words.{Accepted, writtenPart}
+use Rattle.promises.specs.Words.{Scheme, Accepted, writtenPart}
 use Rattle.promises.specs.Demand1.{Holds, Call, openNumbers}
 use Rattle.promises.specs.Demand3.{Begins, Sealed, Only}
 use Rattle.promises.specs.NewInfo.{Input, Typed, GivesBack}
@@ -221,8 +221,9 @@ module _ (lock : Lock) (s filling : List ℕ) (extra : Bool) (out : List ℕ)
 -- ---- written, then read
 
 -- what a parser and a judge give of one stream, as what they gave
-constant : (i : Input) (info : List ℕ) → GivesBack parsed judged i info → GivesBack (λ _. parsed info) (λ _. judged (lockOf info (i .password))) i info
-constant i info k =
+constant : (i : Input) (info : List ℕ) (scheme : ℕ) → GivesBack parsed judged i info scheme
+    → GivesBack (λ _ _. parsed info scheme) (λ _. judged (lockOf info (i .password) scheme)) i info scheme
+constant i info scheme k =
     record {
       answer = k .answer;
       major = k .major;
@@ -234,6 +235,7 @@ constant i info k =
       salt = k .salt;
       verifier = k .verifier;
       hash = k .hash;
+      scheme-is = k .scheme-is;
       named = k .named;
       verdict = k .verdict;
     }
@@ -252,13 +254,13 @@ module _ (i : Input) (out : List ℕ) (t : Typed i) (r : Reply) (now : List ℕ)
   abbrev info : List ℕ
   info = take (r .size) now
 
-  module _ (p : Parsed) (n : ℕ) (f : p ≡ parsed info) (h : n ≡ judged (lockOf info (i .password))) where
-    back : r .answer ≡ 0 → GivesBack (λ _. p) (λ _. n) i info
-    back a =
-        let k = new-info .back i out t (ap (λ (l : Left). l .reply .answer) (sym e) ∙ a) in
-        subst⁻¹ (λ (q : Parsed). GivesBack (λ _. q) (λ _. n) i info) f
-        (subst⁻¹ (λ (m : ℕ). GivesBack (λ _. parsed info) (λ _. m) i info) h
-        (constant i info (subst⁻¹ (λ (l : Left). GivesBack parsed judged i (writtenPart l)) e k)))
+  module _ (scheme : ℕ) (p : Parsed) (n : ℕ) (f : p ≡ parsed info scheme) (h : n ≡ judged (lockOf info (i .password) scheme)) where
+    back : r .answer ≡ 0 → Scheme scheme → GivesBack (λ _ _. p) (λ _. n) i info scheme
+    back a s =
+        let k = new-info .back i out t (ap (λ (l : Left). l .reply .answer) (sym e) ∙ a) scheme s in
+        subst⁻¹ (λ (q : Parsed). GivesBack (λ _ _. q) (λ _. n) i info scheme) f
+        (subst⁻¹ (λ (m : ℕ). GivesBack (λ _ _. parsed info scheme) (λ _. m) i info scheme) h
+        (constant i info scheme (subst⁻¹ (λ (l : Left). GivesBack parsed judged i (writtenPart l) scheme) e k)))
 
-    pub read : Reading i out (left r now) p n
-    read = record { wrote = wrote-info; back = λ a. back a }
+    pub read : Reading i scheme out (left r now) p n
+    read = record { wrote = wrote-info; back = λ a s. back a s }

@@ -1,20 +1,27 @@
 -- The openers that the auditor will offer (01, "What the auditor will try"), and the demand that stops each. An opener is taken by what
 -- it does on the calls that are to be accepted, whatever it does on others; such calls exist for every size. Assumes nothing.
 use mathlib.Core.Path.{_≡_, refl, sym, ap, _∙_}
-use mathlib.Core.Logic.{inl}
-use mathlib.Core.Bool.{Bool, false}
+use mathlib.Core.Logic.{inl, inr}
+use mathlib.Core.Bool.{Bool, false, cond}
 use mathlib.Core.List.{List, [], _∷_, _++_, append-nil}
 use Prim.Native.Nat.{ℕ, _-_, _≤_}
 use native.Mathlib.Omega.{arith}
-use lib.Dec.{lit≤, lit<}
+use lib.Dec.{eqb, lit≤, lit<}
 use lib.ListN.{length, take, drop, getD, replicate, length-append, length-replicate}
 use lib.Seq.{take-at, drop-at, take-all}
 use Rattle.octets.specs.Octets.{leAt, leBytes}
 use Rattle.octets.proofs.Numbers.{length-leBytes}
 use Rattle.answers.specs.Ended.{Left, gives}
+use Rattle.answers.proofs.Laws.{either}
+use Rattle.fips197.proofs.States.{length-addRoundKey}
 use Rattle.aes.specs.Aes.{encryption, decryption}
 use Rattle.aes.proofs.Keys.{length-encryption, length-decryption}
+use Rattle.steps.specs.Steps.{openAll, sealAll}
 use Rattle.steps.proofs.Ecb.{open-one, seal-one}
+use Rattle.steps.proofs.Chained.{chained-open-one, chained-seal-one}
+use Rattle.segments.specs.Start.{startOf}
+use Rattle.blocks.specs.Blocks.{xored}
+use Rattle.descriptor.specs.Info.{saltOf}
 use Rattle.password.specs.Verdict.{judged}
 use Rattle.password.specs.Lock.{Lock, lockOf}
 use Rattle.lengths.specs.Lengths.{streamSize, packageLimit, least, fillingFor, rounded, lengthAllowed, sealedSize}
@@ -24,7 +31,7 @@ use Rattle.sheet.proofs.Lengths.{Openable, openable, Sealable, sealable}
 use Rattle.sheet.proofs.Laws.{open-done, seal-done}
 use Rattle.promises.specs.Words.{Parser, Judge, Opener, Sealer, Accepted, writtenPart, publishedKey}
 use Rattle.promises.specs.Demand1.{Demand1}
-use Rattle.promises.specs.Demand2.{Demand2}
+use Rattle.promises.specs.Demand2.{publishedStep, Demand2}
 use Rattle.promises.specs.Demand3.{RoundTrip, Demand3}
 use Rattle.promises.specs.Possible.{Locks, Fills}
 use Rattle.promises.proofs.Ended.{wrote}
@@ -38,11 +45,11 @@ answer-of l = l .reply .answer
 -- ---- a call to be accepted, for every size of a package
 
 -- a lock with an empty password, which it accepts
-some : Locks judged 128 []
-some = possible .locks 128 (inl refl) [] (lit≤ tt)
+some : Locks judged 128 [] 1
+some = possible .locks 128 (inl refl) [] (lit≤ tt) 1 (inl refl)
 
 abbrev mine : Lock
-mine = lockOf (some .info) []
+mine = lockOf (some .info) [] 1
 
 module _ (size : ℕ) (h : size ≤ 268435456) where
   filled : Fills false size
@@ -102,6 +109,43 @@ module _ (c : List ℕ) (n : length c ≡ 16) where
   block-taken lock v =
       let k : Sealable false (length c) 24 = record { limited = rw n (lit≤ tt); roomy = rw n (lit≤ tt) } in
       ap answer-of (seal-done lock c (replicate 16 0) false (replicate 24 0) v (sealable false (length c) 24 .1 k))
+
+-- what the published scheme makes of it: AES under the published key, and where it chains, the vector of segment 0
+abbrev pub openedBlock : (lock : Lock) (c : List ℕ) → List ℕ
+openedBlock lock c =
+    let plain : List ℕ = decryption (publishedKey lock) c in
+    cond (eqb (lock .scheme) 2) (xored plain (startOf (saltOf (lock .info)) 0)) plain
+
+abbrev pub sealedBlock : (lock : Lock) (b : List ℕ) → List ℕ
+sealedBlock lock b = encryption (publishedKey lock) (cond (eqb (lock .scheme) 2) (xored b (startOf (saltOf (lock .info)) 0)) b)
+
+module _ (lock : Lock) (s : List ℕ) (n : length s ≡ 16) where
+  abbrev f : List ℕ → List ℕ
+  f = encryption (publishedKey lock)
+
+  abbrev g : List ℕ → List ℕ
+  g = decryption (publishedKey lock)
+
+  published-opened : openAll (publishedStep lock 16) s ≡ openedBlock lock s
+  published-opened =
+      elim (either (eqb (lock .scheme) 2)) [
+        | inl e ↦ rw e (chained-open-one f g xored (startOf (saltOf (lock .info))) 16 s n)
+        | inr e ↦ rw e (open-one f g s n)
+      ]
+
+  published-sealed : sealAll (publishedStep lock 16) s ≡ sealedBlock lock s
+  published-sealed =
+      elim (either (eqb (lock .scheme) 2)) [
+        | inl e ↦ rw e (chained-seal-one f g xored (startOf (saltOf (lock .info))) 16 s n)
+        | inr e ↦ rw e (seal-one f g s n)
+      ]
+
+  length-openedBlock : length (openedBlock lock s) ≡ 16
+  length-openedBlock =
+      elim (either (eqb (lock .scheme) 2)) [
+        | inl e ↦ rw e (length-addRoundKey (g s) (startOf (saltOf (lock .info)) 0) ∙ length-decryption (publishedKey lock) s)
+        | inr e ↦ rw e (length-decryption (publishedKey lock) s)
+      ]
 
 -- ---- the openers
 
@@ -180,40 +224,40 @@ module _ (parses : Parser) (judges : Judge) (opens : Opener) (seals : Sealer) wh
             ∙ w mine (round 0 (lit≤ tt) .stream) (x ∷ []) (taken 0 (lit≤ tt) (x ∷ []) (lit≤ tt))
 
     -- one with another operation in place of decryption (one AES round, AES under the key of one hash step, a plain copy) passes only
-    -- where, on every block, that operation is AES decryption under the published key
+    -- where, on every single block, that operation is what the published scheme makes of it
     pub other-opening : (back : (lock : Lock) (ciphertext : List ℕ) → List ℕ) → OpensBy opens back
         → (lock : Lock) (c : List ℕ) → judged lock ≡ 0 → length c ≡ 16
-        → take 16 (back lock c) ≡ decryption (publishedKey lock) c
+        → take 16 (back lock c) ≡ openedBlock lock c
     unfolding streamSize
     other-opening back w lock c v n =
         let s : List ℕ = single c n in
         let out : List ℕ = replicate 16 0 in
         let a : Accepted (opened lock s out) = single-taken c n lock v in
         let size : leAt 8 0 s ≡ 16 = single-size c n in
-        let plain : List ℕ = decryption (publishedKey lock) c in
-        let whole : length plain ≡ 16 = length-decryption (publishedKey lock) c in
+        let plain : List ℕ = openedBlock lock c in
+        let whole : length plain ≡ 16 = length-openedBlock lock c n in
         let theirs : writtenPart (opens lock s out) ≡ take 16 (back lock c) = w lock s out a ∙ rw (size, single-rest c n) in
         let ours : writtenPart (opens lock s out) ≡ plain =
         ap writtenPart (two .opening lock s out (demand-2 .open-answer lock s out .none .0 a))
-        ∙ rw (size, single-rest c n, open-one (encryption (publishedKey lock)) (decryption (publishedKey lock)) c n, take-all 16 plain (omega arith)) (take-at plain [] 16 whole) in
+        ∙ rw (size, single-rest c n, published-opened lock c n, take-all 16 plain (omega arith)) (take-at plain [] 16 whole) in
         sym theirs ∙ ours
 
     -- and so for a sealer, with encryption
     pub other-sealing : (there : (lock : Lock) (plain : List ℕ) → List ℕ) → SealsBy seals there
         → (lock : Lock) (b : List ℕ) → judged lock ≡ 0 → length b ≡ 16
-        → there lock b ≡ encryption (publishedKey lock) b
+        → there lock b ≡ sealedBlock lock b
     unfolding least fillingFor
     other-sealing there w lock b v n =
         let filling : List ℕ = replicate 16 0 in
         let out : List ℕ = replicate 24 0 in
         let a : Accepted (sealed lock b filling false out) = block-taken b n lock v in
-        let cipher : List ℕ = encryption (publishedKey lock) b in
+        let cipher : List ℕ = sealedBlock lock b in
         let whole : length (leBytes 8 16 ++ cipher) ≡ 24 = simp (length-append, length-leBytes, length-encryption) in
         let theirs : writtenPart (seals lock b filling false out) ≡ leBytes 8 16 ++ there lock b =
         w lock b filling false out refl a ∙ rw (n, append-nil) in
         let ours : writtenPart (seals lock b filling false out) ≡ leBytes 8 16 ++ cipher =
         ap writtenPart (two .sealing lock b filling false out refl (demand-2 .seal-answer lock b filling false out refl .none .0 a))
-        ∙ rw (n, append-nil b, seal-one (encryption (publishedKey lock)) (decryption (publishedKey lock)) b n) (take-at (leBytes 8 16 ++ cipher) [] 24 whole) in
+        ∙ rw (n, append-nil b, published-sealed lock b n) (take-at (leBytes 8 16 ++ cipher) [] 24 whole) in
         sym (drop-at (leBytes 8 16) (there lock b) 8 (length-leBytes 8 16))
         ∙ ap (drop 8) (sym theirs ∙ ours)
         ∙ drop-at (leBytes 8 16) cipher 8 (length-leBytes 8 16)

@@ -13,16 +13,16 @@ use Rattle.sha1.specs.Sha1.{sha1, hashRules}
 use Rattle.sha1.specs.declared.Hashed.{Hashed}
 use Rattle.aes.specs.Aes.{keyLength}
 use Rattle.aes.specs.declared.Reply as Aes
-use Rattle.descriptor.specs.Info.{infoRules, described}
+use Rattle.descriptor.specs.Info.{parseRules, described}
 use Rattle.descriptor.specs.declared.Parsed.{Parsed}
 use Rattle.password.specs.Verdict.{verdictRules}
-use Rattle.password.specs.Lock.{Lock, lockOf}
+use Rattle.password.specs.Lock.{Lock}
 use Rattle.lengths.specs.Lengths.{fillingFor}
 use Rattle.sheet.specs.Sheet.{openRules, sealRules, packageOf, filledWith, sealingOf, sealed}
 use Rattle.crossing.specs.Crossing.{descriptorBytes}
-use Rattle.files.specs.Files.{File, units, rules}
-use Rattle.promises.specs.Words.{Accepted, Answers, writtenPart}
-use Rattle.promises.specs.Demand1.{OnOutput, Untouched, Call, Parse, Verdict, infoNumbers, openNumbers, sealNumbers}
+use Rattle.files.specs.Files.{File, fileLock, rules}
+use Rattle.promises.specs.Words.{Scheme, Accepted, Answers, writtenPart}
+use Rattle.promises.specs.Demand1.{OnOutput, Untouched, Call, Parse, Verdict, parseNumbers, openNumbers, sealNumbers}
 use Rattle.promises.specs.Demand2.{Accepts, publishedPackage, publishedStream}
 use Rattle.promises.specs.Demand3.{Begins, Only}
 use Rattle.promises.specs.NewInfo.{Input, Within, rulesFor, infoFor, writeNumbers, GivesBack}
@@ -41,10 +41,10 @@ pub record Enciphering (cipher : (key block : List ℕ) → List ℕ) (key block
   pub accepts : (r .answer ≡ 0) ↔ (keyLength (length key) ≡ true)
   pub published : r .answer ≡ 0 → r .block ≡ cipher key block
 
-pub record Parsing (info : List ℕ) (p : Parsed) : Type 0 where
+pub record Parsing (info : List ℕ) (scheme : ℕ) (p : Parsed) : Type 0 where
   pub ends : Parse p
-  pub answers : Answers (infoRules info) (p .answer)
-  pub published : AllHold (infoRules info) → p .fields ≡ described info
+  pub answers : Answers (parseRules info scheme) (p .answer)
+  pub published : AllHold (parseRules info scheme) → p .fields ≡ described info scheme
 
 pub record Judging (lock : Lock) (n : ℕ) : Type 0 where
   pub ends : Verdict n
@@ -74,7 +74,7 @@ pub record Writing (i : Input) (out : List ℕ) (l : Left) : Type 0 where
 
 -- the program's three files, opened
 pub record FilesOpening (info password stream : File) (out : List ℕ) (l : Left) : Type 0 where
-  pub call : Call fileNumbers (packageOf (lockOf (info .bytes) (units (password .bytes))) (stream .bytes)) out l
+  pub call : Call fileNumbers (packageOf (fileLock info password) (stream .bytes)) out l
   pub answers : Answers (rules info password stream (length out)) (l .reply .answer)
 
 -- ---- one call from C, with the reply that its number tells; one that opens, seals or writes is as above
@@ -93,9 +93,9 @@ pub record BlockOut (cipher : (key block : List ℕ) → List ℕ) (key block ou
   pub value : Value blockNumbers (cipher key block) out l
   pub accepts : Accepted l ↔ (keyLength (length key) ≡ true)
 
-pub record DescriptorOut (info out : List ℕ) (l : Left) : Type 0 where
-  pub value : Value infoNumbers (descriptorBytes (described info)) out l
-  pub answers : Answers (infoRules info) (l .reply .answer)
+pub record DescriptorOut (info : List ℕ) (scheme : ℕ) (out : List ℕ) (l : Left) : Type 0 where
+  pub value : Value parseNumbers (descriptorBytes (described info scheme)) out l
+  pub answers : Answers (parseRules info scheme) (l .reply .answer)
 
 pub record VerdictOut (lock : Lock) (r : Reply) : Type 0 where
   pub judged : Judging lock (r .answer)
@@ -128,7 +128,7 @@ pub record Resealed (lock : Lock) (stream filling : List ℕ) (extra : Bool) (ou
   pub opened : AllHold (openRules lock stream (length out)) → Again lock stream filling extra out now again l
   pub refused : (AllHold (openRules lock stream (length out)) → ⊥) → Untouched out (left (l .reply) now) × Untouched again l
 
--- an EncryptionInfo that was written, then parsed, and judged with its password
-pub record Reading (i : Input) (out : List ℕ) (l : Left) (p : Parsed) (n : ℕ) : Type 0 where
+-- an EncryptionInfo that was written, then parsed, and judged with its password, both under a scheme
+pub record Reading (i : Input) (scheme : ℕ) (out : List ℕ) (l : Left) (p : Parsed) (n : ℕ) : Type 0 where
   pub wrote : Writing i out l
-  pub back : Accepted l → GivesBack (λ _. p) (λ _. n) i (writtenPart l)
+  pub back : Accepted l → Scheme scheme → GivesBack (λ _ _. p) (λ _. n) i (writtenPart l) scheme

@@ -1,5 +1,5 @@
--- The cases P1 to P12 of 01 ("The package stream"), as one list, and what each row claims of a parser, a judge, an opener and a sealer.
--- Assumes nothing.
+-- The cases P1 to P12 of 01 ("The package stream"), as one list, and what each row claims of a parser, a judge, an opener and a sealer,
+-- under every scheme. Assumes nothing.
 use mathlib.Core.Path.{_≡_}
 use mathlib.Core.Bool.{Bool, true, false}
 use mathlib.Core.List.{List, [], _∷_, _++_}
@@ -12,8 +12,8 @@ use Rattle.steps.specs.Steps.{sealAll}
 use Rattle.descriptor.specs.Info.{infoRules, headerSize, sizeExtra, algId, keySize}
 use Rattle.password.specs.Lock.{Lock}
 use Rattle.lengths.specs.Lengths.{streamSize}
-use Rattle.promises.specs.Words.{Parser, Judge, Opener, Sealer, publishedKey}
-use Rattle.promises.specs.Demand2.{blockByBlock}
+use Rattle.promises.specs.Words.{Parser, Judge, Opener, Sealer}
+use Rattle.promises.specs.Demand2.{publishedStep}
 
 -- ---- the table
 
@@ -85,7 +85,7 @@ module _ (parses : Parser) (judges : Judge) (opens : Opener) (sealer : Sealer) w
   abbrev pub Into : (extra : Bool) (size stream count : ℕ) → Type 0
   Into extra size stream count =
       (lock : Lock) («package» filling out : List ℕ) → judges lock ≡ 0 → length «package» ≡ size → length filling ≡ 16 → stream ≤ length out
-      → let content : List ℕ = leBytes 8 size ++ sealAll (blockByBlock (publishedKey lock)) («package» ++ take count filling) in
+      → let content : List ℕ = leBytes 8 size ++ sealAll (publishedStep lock size) («package» ++ take count filling) in
       sealer lock «package» filling extra out ≡ left (reply 0 stream) (content ++ replicate (length out - stream) 0)
 
   abbrev pub Claim : Case → Type 0
@@ -96,11 +96,11 @@ module _ (parses : Parser) (judges : Judge) (opens : Opener) (sealer : Sealer) w
       → ((«package» filling : List ℕ) (extra : Bool) (out : List ℕ) → length «package» ≡ size → length filling ≡ 16
       → sealer lock «package» filling extra out ≡ left (reply answer 0) out)
       × ((stream out : List ℕ) → 8 ≤ length stream → streamSize stream ≡ size → opens lock stream out ≡ left (reply answer 0) out)
-  Claim (answers facts answer) = (info : List ℕ) → Agrees info facts → Before answer info → parses info .answer ≡ answer
-  Claim (passes facts low high) = (info : List ℕ) → Agrees info facts → Before low info → Outside low high (parses info .answer)
+  Claim (answers facts answer) = (info : List ℕ) (scheme : ℕ) → Agrees info facts → Before answer info → parses info scheme .answer ≡ answer
+  Claim (passes facts low high) = (info : List ℕ) (scheme : ℕ) → Agrees info facts → Before low info → Outside low high (parses info scheme .answer)
   Claim (names facts count) =
-      (info : List ℕ) → Agrees info facts → Before 3 info
-      → Outside 3 5 (parses info .answer) × (parses info .answer ≡ 0 → parses info .fields .«name_length» ≡ count)
+      (info : List ℕ) (scheme : ℕ) → Agrees info facts → Before 3 info
+      → Outside 3 5 (parses info scheme .answer) × (parses info scheme .answer ≡ 0 → parses info scheme .fields .«name_length» ≡ count)
 
   -- every row's claim
   abbrev pub Every : List Case → Type 0

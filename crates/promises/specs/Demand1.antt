@@ -16,11 +16,11 @@ use Rattle.promises.specs.Words.{Parser, Judge, Opener, Sealer, Accepted
 
 -- ---- the numbers of each entry, beside 0 (01, "The numbered replies")
 
-abbrev pub infoNumbers : List ℕ
-infoNumbers = 1 ∷ 2 ∷ 3 ∷ 4 ∷ 5 ∷ 6 ∷ 7 ∷ 8 ∷ 9 ∷ 10 ∷ []
+abbrev pub parseNumbers : List ℕ
+parseNumbers = 1 ∷ 2 ∷ 3 ∷ 4 ∷ 5 ∷ 6 ∷ 7 ∷ 8 ∷ 9 ∷ 10 ∷ 19 ∷ []
 
 abbrev pub verdictNumbers : List ℕ
-verdictNumbers = infoNumbers ++ 11 ∷ 12 ∷ []
+verdictNumbers = parseNumbers ++ 11 ∷ 12 ∷ []
 
 abbrev pub openNumbers : List ℕ
 openNumbers = verdictNumbers ++ 13 ∷ 14 ∷ 15 ∷ 16 ∷ []
@@ -60,7 +60,7 @@ pub record Call (numbers content out : List ℕ) (l : Left) : Type 0 where
 
 -- a parse, which has no size: a refused one is zero in every field
 abbrev pub Parse : Parsed → Type 0
-Parse p = Concludes infoNumbers zeroed (p .answer) 0 (p .fields)
+Parse p = Concludes parseNumbers zeroed (p .answer) 0 (p .fields)
 
 -- a verdict, which is an answer alone
 abbrev pub Verdict : ℕ → Type 0
@@ -69,7 +69,7 @@ Verdict n = Concludes {A = Unit} verdictNumbers tt n 0 tt
 -- ---- the demand
 
 pub record Demand1 (parses : Parser) (judges : Judge) (opens : Opener) (seals : Sealer) : Type 0 where
-  pub parsing : (info : List ℕ) → Parse (parses info)
+  pub parsing : (info : List ℕ) (scheme : ℕ) → Parse (parses info scheme)
   pub judging : (lock : Lock) → Verdict (judges lock)
   -- what is written is the package of the stream
   pub opening : (lock : Lock) (stream out : List ℕ) → Call openNumbers (packageOf lock stream) out (opens lock stream out)

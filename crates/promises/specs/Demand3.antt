@@ -1,7 +1,7 @@
--- Demand 3. Fix an admitted descriptor and a password that it accepts. Every package within the limit, with every filling of an allowed
--- length, seals into a stream that opens to that package. Two pairs of package and filling never seal alike, and every stream that opens
--- is the sealing of exactly one. A pair is lawful where both parts are bytes, the package is of at most 268,435,456 and the filling
--- exactly as long as needed; after a size above 0 that is a multiple of 4,096 it is of 0 bytes or of 16. Assumes nothing.
+-- Demand 3. Fix an admitted descriptor, a scheme and a password that is accepted. Every package within the limit, with every filling of
+-- an allowed length, seals into a stream that opens to that package. Two pairs of package and filling never seal alike, and every stream
+-- that opens is the sealing of exactly one. A pair is lawful where both parts are bytes, the package is of at most 268,435,456 and the
+-- filling exactly as long as needed; after a size above 0 that is a multiple of 4,096 it is of 0 bytes or of 16. Assumes nothing.
 use mathlib.Core.Path.{_≡_}
 use mathlib.Core.Bool.{Bool, false}
 use mathlib.Core.List.{List}
@@ -55,7 +55,7 @@ pub record Only (seals : Sealer) (lock : Lock) (stream «package» : List ℕ) :
   pub sealing : Seals seals lock it stream
   pub one : (q : Pair) → Lawful lengths q → Sealed seals lock q stream → q ≡ it
 
--- what is asked under one descriptor and one password
+-- what is asked under one descriptor, one scheme and one password
 pub record Exact (opens : Opener) (seals : Sealer) (lock : Lock) : Type 0 where
   -- (a) every pair seals into a stream that opens to its package
   pub a : (p : Pair) → Lawful lengths p → RoundTrip opens seals lock p
@@ -73,6 +73,6 @@ pub record Exact (opens : Opener) (seals : Sealer) (lock : Lock) : Type 0 where
   pub e : («package» filling : List ℕ) (extra other : Bool) (out : List ℕ) → length filling ≡ 16 → takesExtra (length «package») ≡ false
       → seals lock «package» filling extra out ≡ seals lock «package» filling other out
 
--- under every descriptor and every password that it accepts: a verdict of 0 says both
+-- under every descriptor, scheme and password that are accepted: a verdict of 0 says it of all three
 pub record Demand3 (judges : Judge) (opens : Opener) (seals : Sealer) : Type 0 where
   pub under : (lock : Lock) → judges lock ≡ 0 → Exact opens seals lock

@@ -16,7 +16,7 @@ use Rattle.writer.specs.Written.{written}
 use Rattle.crossing.specs.Crossing.{told}
 use Rattle.capi.specs.Capi as Capi
 use Rattle.files.specs.Files.{File, filesOpened}
-use Rattle.promises.specs.Demand1.{Concludes, OnOutput, Parse, Verdict, infoNumbers, verdictNumbers, openNumbers, sealNumbers}
+use Rattle.promises.specs.Demand1.{Concludes, OnOutput, Parse, Verdict, parseNumbers, verdictNumbers, openNumbers, sealNumbers}
 use Rattle.promises.specs.NewInfo.{writeNumbers}
 
 -- ---- the numbers of the other calls
@@ -49,7 +49,7 @@ pub record EveryCall : Type 0 where
   pub hashing : (message : List ℕ) → Hash (hashed message)
   pub encrypting : (key block : List ℕ) → Block (encrypted key block)
   pub decrypting : (key block : List ℕ) → Block (decrypted key block)
-  pub parsing : (info : List ℕ) → Parse (parsed info)
+  pub parsing : (info : List ℕ) (scheme : ℕ) → Parse (parsed info scheme)
   pub judging : (lock : Lock) → Verdict (judged lock)
   pub opening : (lock : Lock) (stream out : List ℕ) → OnOutput openNumbers out (opened lock stream out)
   pub sealing : (lock : Lock) («package» filling : List ℕ) (extra : Bool) (out : List ℕ) → OnOutput sealNumbers out (sealed lock «package» filling extra out)
@@ -59,7 +59,7 @@ pub record EveryCall : Type 0 where
   pub c-sha1 : (message out : List ℕ) → FromC hashNumbers out (Capi.hashOutcome message out)
   pub c-aes-encrypt : (key : List ℕ) (low high : ℕ) (out : List ℕ) → FromC blockNumbers out (Capi.encryptOutcome key low high out)
   pub c-aes-decrypt : (key : List ℕ) (low high : ℕ) (out : List ℕ) → FromC blockNumbers out (Capi.decryptOutcome key low high out)
-  pub c-parse : (info out : List ℕ) → FromC infoNumbers out (Capi.parseOutcome info out)
+  pub c-parse : (info : List ℕ) (scheme : ℕ) (out : List ℕ) → FromC parseNumbers out (Capi.parseOutcome info scheme out)
   pub c-verdict : (lock : Lock) → let r = told (Capi.verdictWord lock) in Concludes {A = Unit} verdictNumbers tt (r .answer) (r .size) tt
   pub c-open : (lock : Lock) (stream out : List ℕ) → FromC openNumbers out (Capi.openOutcome lock stream out)
   pub c-seal : (lock : Lock) («package» : List ℕ) (low high extra : ℕ) (out : List ℕ)

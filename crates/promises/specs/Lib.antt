@@ -6,5 +6,6 @@ pub mod Cases
 pub mod Possible
 pub mod NewInfo
 pub mod ExtraBlock
+pub mod BlockLaw
 pub mod EveryCall
 pub mod Calls

@@ -16,7 +16,7 @@ use Rattle.password.specs.Lock.{lockOf}
 use Rattle.sheet.specs.Frame.{Pair, Lawful}
 use Rattle.sheet.specs.Sheet.{lengths}
 use Rattle.writer.specs.Written.{writeRules, infoOf}
-use Rattle.promises.specs.Words.{Parser, Judge, Opener, Sealer, Accepted, Answers, writtenPart}
+use Rattle.promises.specs.Words.{Parser, Judge, Opener, Sealer, Scheme, Accepted, Answers, writtenPart}
 use Rattle.promises.specs.Demand1.{Call}
 use Rattle.promises.specs.Demand2.{blockByBlock}
 use Rattle.promises.specs.Demand3.{RoundTrip}
@@ -69,20 +69,21 @@ pub record Within (i : Input) (room : ℕ) : Type 0 where
 
 -- ---- what is given back
 
--- a stream from which a parser gives back each field, with the name at its place, and on whose password a judge says 0
-pub record GivesBack (parses : Parser) (judges : Judge) (i : Input) (info : List ℕ) : Type 0 where
-  pub answer : parses info .answer ≡ 0
-  pub major : parses info .fields .major ≡ 3
-  pub minor : parses info .fields .minor ≡ 2
-  pub alg : parses info .fields .«alg_id» ≡ algIdOf (i .bits)
-  pub key : parses info .fields .«key_size» .0 ≡ i .bits / 8
-  pub place : parses info .fields .«name_place» ≡ 44
-  pub name : parses info .fields .«name_length» ≡ length (i .name)
-  pub salt : parses info .fields .salt ≡ i .salt
-  pub verifier : parses info .fields .«encrypted_verifier» ≡ take 16 (fieldsFor i)
-  pub hash : parses info .fields .«encrypted_verifier_hash» ≡ drop 16 (fieldsFor i)
+-- a stream from which a parser gives back each field, with the name at its place and the scheme, and on whose password a judge says 0
+pub record GivesBack (parses : Parser) (judges : Judge) (i : Input) (info : List ℕ) (scheme : ℕ) : Type 0 where
+  pub answer : parses info scheme .answer ≡ 0
+  pub major : parses info scheme .fields .major ≡ 3
+  pub minor : parses info scheme .fields .minor ≡ 2
+  pub alg : parses info scheme .fields .«alg_id» ≡ algIdOf (i .bits)
+  pub key : parses info scheme .fields .«key_size» .0 ≡ i .bits / 8
+  pub place : parses info scheme .fields .«name_place» ≡ 44
+  pub name : parses info scheme .fields .«name_length» ≡ length (i .name)
+  pub salt : parses info scheme .fields .salt ≡ i .salt
+  pub verifier : parses info scheme .fields .«encrypted_verifier» ≡ take 16 (fieldsFor i)
+  pub hash : parses info scheme .fields .«encrypted_verifier_hash» ≡ drop 16 (fieldsFor i)
+  pub scheme-is : parses info scheme .fields .scheme ≡ scheme
   pub named : take (length (i .name)) (drop 44 info) ≡ i .name
-  pub verdict : judges (lockOf info (i .password)) ≡ 0
+  pub verdict : judges (lockOf info (i .password) scheme) ≡ 0
 
 pub record NewInfo (writes : Writer) (parses : Parser) (judges : Judge) (opens : Opener) (seals : Sealer) : Type 0 where
   -- something comes out exactly where the input is within the limits
@@ -91,8 +92,9 @@ pub record NewInfo (writes : Writer) (parses : Parser) (judges : Judge) (opens :
   pub answers : (i : Input) (out : List ℕ) → Typed i → Answers (rulesFor i (length out)) (writes i out .reply .answer)
   pub call : (i : Input) (out : List ℕ) → Typed i → Call writeNumbers (infoFor i) out (writes i out)
   pub size : (i : Input) (out : List ℕ) → Typed i → Accepted (writes i out) → writes i out .reply .size ≡ 116 + length (i .name)
-  -- everything can be read again
-  pub back : (i : Input) (out : List ℕ) → Typed i → Accepted (writes i out) → GivesBack parses judges i (writtenPart (writes i out))
+  -- everything can be read again, under every scheme
+  pub back : (i : Input) (out : List ℕ) → Typed i → Accepted (writes i out) → (scheme : ℕ) → Scheme scheme
+      → GivesBack parses judges i (writtenPart (writes i out)) scheme
   -- and every package, with every filling of an allowed length, seals under it into a stream that opens to that package
-  pub opening : (i : Input) (out : List ℕ) → Typed i → Accepted (writes i out)
-      → (p : Pair) → Lawful lengths p → RoundTrip opens seals (lockOf (writtenPart (writes i out)) (i .password)) p
+  pub opening : (i : Input) (out : List ℕ) → Typed i → Accepted (writes i out) → (scheme : ℕ) → Scheme scheme
+      → (p : Pair) → Lawful lengths p → RoundTrip opens seals (lockOf (writtenPart (writes i out)) (i .password) scheme) p

@@ -3,10 +3,10 @@
 use mathlib.Core.Path.{_≡_}
 use mathlib.Core.Logic.{_↔_}
 use mathlib.Core.Bool.{Bool}
-use mathlib.Core.List.{List}
+use mathlib.Core.List.{List, [], _∷_}
 use Prim.Native.Nat.{ℕ, _/_, _<_}
 use lib.ListN.{take}
-use Rattle.answers.specs.Rules.{Rule, AllHold, First}
+use Rattle.answers.specs.Rules.{Rule, OneOf, AllHold, First}
 use Rattle.answers.specs.Ended.{Left}
 use Rattle.descriptor.specs.Info.{keySize, saltOf}
 use Rattle.descriptor.specs.declared.Parsed.{Parsed}
@@ -15,11 +15,11 @@ use Rattle.password.specs.Lock.{Lock}
 
 -- ---- the entries
 
--- EncryptionInfo gives an answer and the fields of a descriptor
+-- EncryptionInfo and a scheme give an answer and the fields of a descriptor
 abbrev pub Parser : Type 0
-Parser = (info : List ℕ) → Parsed
+Parser = (info : List ℕ) (scheme : ℕ) → Parsed
 
--- what unlocks a sheet, EncryptionInfo and a password, gives an answer
+-- what unlocks a sheet, EncryptionInfo, a password and a scheme, gives an answer
 abbrev pub Judge : Type 0
 Judge = Lock → ℕ
 
@@ -30,6 +30,10 @@ Opener = (lock : Lock) (stream out : List ℕ) → Left
 -- the same from a package, sixteen bytes given to fill its last block, and the choice of an extra one
 abbrev pub Sealer : Type 0
 Sealer = (lock : Lock) («package» filling : List ℕ) (extra : Bool) (out : List ℕ) → Left
+
+-- the schemes: each block by itself, and chained (request 2026-04)
+abbrev pub Scheme : ℕ → Type 0
+Scheme scheme = OneOf (1 ∷ 2 ∷ []) scheme
 
 -- ---- what is said of them
 

@@ -13,26 +13,27 @@ use Rattle.steps.specs.Steps.{Sized, Reverses, whole}
 use Rattle.steps.proofs.Made.{length-open-all, length-seal-all}
 use Rattle.steps.proofs.Inverse.{step-reversible}
 use Rattle.blocks.specs.Blocks.{stepFrom, streamStart}
+use Rattle.blocks.specs.declared.Mode.{Mode}
 use Rattle.blocks.specs.declared.Place.{Place}
-use Rattle.blocks.proofs.Aes.{under-started, expanded-rounds}
-use Rattle.descriptor.specs.Info.{described}
+use Rattle.blocks.proofs.Aes.{expanded-rounds}
+use Rattle.descriptor.specs.declared.Descriptor.{Descriptor}
 use Rattle.descriptor.proofs.Laws as descriptor
-use Rattle.password.specs.Lock.{Lock}
+use Rattle.password.specs.Lock.{Lock, descriptorOf}
 use Rattle.password.specs.Verdict.{judged, unlocked}
 use Rattle.password.specs.declared.Unlocked.{Unlocked}
 use Rattle.password.proofs.Laws as password
 use Rattle.lengths.specs.Lengths.{packageLimit}
 use Rattle.lengths.proofs.Fillings.{allowed-whole}
 use Rattle.sheet.specs.Frame.{Sound, OneToOne}
-use Rattle.sheet.specs.Scheme.{stepOf}
+use Rattle.sheet.specs.Scheme.{modeOf}
 use Rattle.sheet.specs.Sheet.{lengths, sheetKey, sheetStep, sealing, opening}
 use Rattle.sheet.proofs.Frame.{inverse}
-use Rattle.sheet.proofs.Scheme.{step-width, step-sized, step-reverses}
+use Rattle.sheet.proofs.Scheme.{step-width, step-sized, step-reverses, mode-started}
 
 module _ (lock : Lock) where
   pub key-bytes : Bytes (sheetKey lock)
   unfolding sheetKey
-  key-bytes = password.key-bytes (described (lock .info)) (lock .password)
+  key-bytes = password.key-bytes (descriptorOf lock) (lock .password)
 
   -- ---- demand 3's instance of the frame
 
@@ -43,15 +44,15 @@ module _ (lock : Lock) where
   module _ (size : ℕ) where
     width : sheetStep lock size .width ≡ 16
     unfolding sheetStep
-    width = step-width (described (lock .info)) (sheetKey lock) size
+    width = step-width (descriptorOf lock) (sheetKey lock) size
 
     sized : Sized (sheetStep lock size)
     unfolding sheetStep
-    sized = step-sized (described (lock .info)) (sheetKey lock) size
+    sized = step-sized (descriptorOf lock) (sheetKey lock) size
 
     reverses : Reverses (sheetStep lock size)
     unfolding sheetStep
-    reverses = step-reverses (described (lock .info)) (sheetKey lock) size key-bytes
+    reverses = step-reverses (descriptorOf lock) (sheetKey lock) size key-bytes
 
     pub length-sealed : (s : List ℕ) → length (sealing lock size s) ≡ 16 * (length s / 16)
     unfolding sealing
@@ -82,7 +83,7 @@ module _ (lock : Lock) where
   module _ (v : judged lock ≡ 0) (u : Unlocked) (e : u ≡ unlocked lock) where
     key-fits : keyLength (length (sheetKey lock)) ≡ true
     unfolding sheetKey
-    key-fits = password.key-fits (described (lock .info)) (lock .password) (descriptor.well-formed (lock .info) (password.admitted lock v))
+    key-fits = password.key-fits (descriptorOf lock) (lock .password) (descriptor.well-formed (lock .info) (lock .scheme) (password.admitted lock v))
 
     is : u .key ≡ expanded (sheetKey lock)
     unfolding sheetKey
@@ -91,7 +92,10 @@ module _ (lock : Lock) where
     pub rounds-known : (0 < u .key .rounds) × (u .key .rounds ≤ 14)
     rounds-known = subst⁻¹ (λ (x : Expanded). (0 < x .rounds) × (x .rounds ≤ 14)) is (expanded-rounds (sheetKey lock) key-fits)
 
-    -- taken up at its start, a stream's step is the one of the key, for every size
-    pub step-under : (p : Place) (size : ℕ) → p ≡ streamStart → stepFrom p (u .key .bytes) (u .key .rounds) ≡ sheetStep lock size
-    unfolding sheetStep stepOf
-    step-under p size s = under-started (sheetKey lock) key-fits (u .key) p is s
+    -- taken up at its start, a stream's step is the one of the scheme and the key, for every size
+    pub step-under : (m : Mode) (p : Place) (size : ℕ) → m ≡ modeOf (u .fields) size → p ≡ streamStart
+        → stepFrom p m (u .key .bytes) (u .key .rounds) ≡ sheetStep lock size
+    unfolding sheetStep
+    step-under m p size h s =
+        let d : u .fields ≡ descriptorOf lock = ap (λ (x : Unlocked). x .fields) e ∙ password.unlocked-fields lock v in
+        mode-started (descriptorOf lock) (sheetKey lock) size key-fits (u .key) m p is (h ∙ ap (λ (x : Descriptor). modeOf x size) d) s

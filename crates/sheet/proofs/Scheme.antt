@@ -1,22 +1,57 @@
--- What every scheme gives, by its lines: both ways give a unit, and undo each other under a key of bytes. Assumes nothing.
-use mathlib.Core.Path.{_≡_}
+-- What every scheme gives, by its lines: both ways give a unit, and undo each other under a key of bytes; which blocks are opened without
+-- a look at the one before; and the code's mode is the scheme's step. Assumes nothing.
+use mathlib.Core.Path.{_≡_, refl, ap, _∙_}
+use mathlib.Core.Bool.{Bool, true, false, cond}
 use mathlib.Core.List.{List}
+use mathlib.Core.Logic.{inl, inr}
 use Prim.Native.Nat.{ℕ}
+use borrow.Author.Tests.{eqb-true}
+use lib.Dec.{eqb}
+use lib.ListN.{length}
 use Rattle.octets.specs.Octets.{Bytes}
-use Rattle.steps.specs.Steps.{Sized, Reverses}
-use Rattle.blocks.proofs.Aes.{under-width, under-sized, under-reverses}
+use Rattle.answers.proofs.Laws.{either}
+use Rattle.aes.specs.Aes.{keyLength, expanded}
+use Rattle.aes.specs.declared.Expanded.{Expanded}
+use Rattle.steps.specs.Steps.{Step, Starts, Sized, Reverses}
+use Rattle.steps.specs.Chained.{begins}
+use Rattle.blocks.specs.Blocks.{ecbUnder, chainedUnder, stepFrom, streamStart}
+use Rattle.blocks.specs.declared.Mode.{Mode}
+use Rattle.blocks.specs.declared.Place.{Place}
+use Rattle.blocks.proofs.Aes.{under-width, under-starts, under-sized, under-reverses, chained-width, chained-under-starts, chained-under-sized, chained-under-reverses, ecb-started, chained-started}
 use Rattle.descriptor.specs.declared.Descriptor.{Descriptor}
-use Rattle.sheet.specs.Scheme.{stepOf}
+use Rattle.sheet.specs.Scheme.{stepOf, modeOf}
+
+chosen : (b : Bool) (P : Step → Type 0) (x y : Step) → (b ≡ true → P x) → (b ≡ false → P y) → P (cond b x y)
+chosen true P x y f g = f refl
+chosen false P x y f g = g refl
 
 module _ (d : Descriptor) (key : List ℕ) (size : ℕ) where
-  pub step-width : stepOf d key size .width ≡ 16
+  -- what is so of each line
+  by-scheme : (P : Step → Type 0) → (d .scheme ≡ 2 → P (chainedUnder key (d .salt) size)) → P (ecbUnder key) → P (stepOf d key size)
   unfolding stepOf
-  step-width = under-width key
+  by-scheme P f g = chosen (eqb (d .scheme) 2) P (chainedUnder key (d .salt) size) (ecbUnder key) (λ e. f (eqb-true (d .scheme) 2 e)) (λ e. g)
+
+  pub step-width : stepOf d key size .width ≡ 16
+  step-width = by-scheme (λ (s : Step). s .width ≡ 16) (λ e. chained-width key (d .salt) size) (under-width key)
 
   pub step-sized : Sized (stepOf d key size)
-  unfolding stepOf
-  step-sized = under-sized key
+  step-sized = by-scheme Sized (λ e. chained-under-sized key (d .salt) size) (under-sized key)
 
   pub step-reverses : Bytes key → Reverses (stepOf d key size)
-  unfolding stepOf
-  step-reverses b = under-reverses key b
+  step-reverses b = by-scheme Reverses (λ e. chained-under-reverses key b (d .salt) size) (under-reverses key b)
+
+  -- every block starts but, under scheme 2, those that no segment begins with
+  pub step-starts : (i : ℕ) → (d .scheme ≡ 2 → begins size i ≡ true) → Starts (stepOf d key size) i
+  step-starts i h = by-scheme (λ (s : Step). Starts s i) (λ e. chained-under-starts key (d .salt) size i (h e)) (under-starts key i)
+
+  -- ---- as the code takes it
+
+  pub mode-started : keyLength (length key) ≡ true → (e : Expanded) (m : Mode) (p : Place) → e ≡ expanded key → m ≡ modeOf d size → p ≡ streamStart
+      → stepFrom p m (e .bytes) (e .rounds) ≡ stepOf d key size
+  unfolding stepOf modeOf
+  mode-started t e m p q h s =
+      let c = ap (λ (x : Mode). x .chained) h in
+      elim (either (eqb (d .scheme) 2)) [
+        | inl b ↦ rw b (chained-started key t m e p (c ∙ b) q s ∙ ap (λ (x : Mode). chainedUnder key (x .salt) (x .size)) h)
+        | inr b ↦ rw b (ecb-started key t m e p (c ∙ b) q s)
+      ]

@@ -1,5 +1,5 @@
 -- Opening and sealing: the answer, the size and every byte of the output, for every input (01, "The package stream" and "The numbered
--- replies"; 004 2.3.4.4, 000 section 7). Assumes nothing.
+-- replies"; 004 2.3.4.4). Assumes nothing.
 use mathlib.Core.Bool.{Bool}
 use mathlib.Core.List.{List, _++_}
 use Prim.Native.Nat.{ℕ}
@@ -7,8 +7,7 @@ use lib.ListN.{length, take}
 use Rattle.answers.specs.Rules.{Rule, firstOf, roomRules}
 use Rattle.answers.specs.Ended.{Left, ended}
 use Rattle.steps.specs.Steps.{Step, openAll, sealAll}
-use Rattle.descriptor.specs.Info.{described}
-use Rattle.password.specs.Lock.{Lock}
+use Rattle.password.specs.Lock.{Lock, descriptorOf}
 use Rattle.password.specs.Verdict.{keyOf, verdictRules}
 use Rattle.lengths.specs.Lengths.{streamSize, packageLimit, allowed, fillingFor, sealedSize, lengthRules, sizeRules}
 use Rattle.sheet.specs.Frame.{Pair, pair, Lengths, streamOf, pairOf}
@@ -28,7 +27,7 @@ streamRules stream room = lengthRules (length stream) (streamSize stream) ++ roo
 unfoldable pub packageRules : (extra : Bool) (size room : ℕ) → List Rule
 packageRules extra size room = sizeRules size ++ roomRules room (sealedSize extra size)
 
--- all of each, after the rules 1 to 12
+-- all of each, after the verdict's rules
 unfoldable pub openRules : Lock → (stream : List ℕ) (room : ℕ) → List Rule
 openRules lock stream room = verdictRules lock ++ streamRules stream room
 
@@ -39,11 +38,11 @@ sealRules lock extra size room = verdictRules lock ++ packageRules extra size ro
 
 -- the key of a lock
 unfoldable pub sheetKey : Lock → List ℕ
-sheetKey lock = keyOf (described (lock .info)) (lock .password)
+sheetKey lock = keyOf (descriptorOf lock) (lock .password)
 
 -- the step of a package of that size under it, and its two ways
 unfoldable pub sheetStep : Lock → (size : ℕ) → Step
-sheetStep lock size = stepOf (described (lock .info)) (sheetKey lock) size
+sheetStep lock size = stepOf (descriptorOf lock) (sheetKey lock) size
 
 unfoldable pub sealing : Lock → (size : ℕ) → List ℕ → List ℕ
 sealing lock size = sealAll (sheetStep lock size)

@@ -1,18 +1,23 @@
-// Opens and seals the package of a locked document (01, "The package stream"; 004 2.3.4.4), given EncryptionInfo and the password.
+// Opens and seals the package of a locked document (01, "The package stream"; 004 2.3.4.4), given EncryptionInfo, the password and the
+// scheme, which the document does not name.
 //
-//     let r = sheet::open(info, password, stream, &mut out);
+//     let r = sheet::open(info, password, descriptor::ECB, stream, &mut out);
 //     if r.answer == answers::DONE { .. the first r.size bytes of out .. }
 //
 // Each call says in full what it leaves: on answer 0 the content and then zeros to the end of the output, whatever it held; on any
 // other answer, size 0 and the output as it was. The tests go in 01's order, and the key is derived once a call.
 //
-// Warning: AES in ECB mode lets equal blocks be seen to be equal, and nothing here tells whether a stream was changed.
+// Warning: AES in ECB mode lets equal blocks be seen to be equal. Nothing here tells whether a stream was changed, nor whether it was
+// sealed under the other scheme: it opens to as many wrong bytes.
 ghost use mathlib.Core.Path.{_≡_};
 ghost use Rattle.answers.specs.Rules.{firstOf};
 ghost use Rattle.answers.specs.Ended.{left};
 ghost use Rattle.password.specs.Lock.{lockOf};
+ghost use Rattle.sheet.specs.Scheme.{modeOf};
 ghost use Rattle.sheet.specs.Sheet.{streamRules, packageRules, opened, sealed};
 use answers::Reply;
+use blocks::Mode;
+use descriptor::Descriptor;
 
 // The first rule on a stream's lengths and the room for its package that is broken; 0 where none is.
 fn stream_answer(stream: &[u8], room: usize) -> u16
@@ -36,18 +41,31 @@ fn package_answer(extra: bool, size: usize, room: usize) -> u16
     answers::room_answer(room, 8 + lengths::rounded(extra, size))
 }
 
-// Opens a package stream into out: as many bytes as StreamSize says, whatever its filling holds.
-pub fn open(info: &[u8], password: &[u16], stream: &[u8], out: &mut [u8]) -> Reply
-    ensures { λ r. ⌜ left r (now (out .exit)) ≡ opened (lockOf (now (info .entry)) (now (password .entry))) (now (stream .entry)) (now (out .entry)) ⌝ }
+// How the blocks of a package of so many bytes go together under a descriptor.
+fn mode_of(fields: Descriptor, size: usize) -> Mode
+    ensures { λ r. ⌜ r ≡ modeOf fields size ⌝ }
 {
-    let u = password::unlock(info, password);
+    let salt = fields.salt;
+    Mode {
+        chained: fields.scheme == descriptor::CHAINED,
+        salt,
+        size,
+    }
+}
+
+// Opens a package stream into out: as many bytes as StreamSize says, whatever its filling holds.
+pub fn open(info: &[u8], password: &[u16], scheme: u64, stream: &[u8], out: &mut [u8]) -> Reply
+    ensures { λ r. ⌜ left r (now (out .exit)) ≡ opened (lockOf (now (info .entry)) (now (password .entry)) scheme) (now (stream .entry)) (now (out .entry)) ⌝ }
+{
+    let u = password::unlock(info, password, scheme);
     let a = answers::then(u.answer, stream_answer(stream, out.len()));
     if a != answers::DONE {
         return answers::ended(a, 0, out);
     }
     let size = lengths::stream_size(stream);
     let key = u.key;
-    blocks::decrypt(key, blocks::start(), &stream[8..], size, out);
+    let mode = mode_of(u.fields, size);
+    blocks::decrypt(key, mode, blocks::start(), &stream[8..], size, out);
     answers::ended(answers::DONE, size, out)
 }
 
@@ -56,14 +74,15 @@ pub fn open(info: &[u8], password: &[u16], stream: &[u8], out: &mut [u8]) -> Rep
 pub fn seal(
     info: &[u8],
     password: &[u16],
+    scheme: u64,
     package: &[u8],
     filling: [u8; 16],
     extra: bool,
     out: &mut [u8],
 ) -> Reply
-    ensures { λ r. ⌜ left r (now (out .exit)) ≡ sealed (lockOf (now (info .entry)) (now (password .entry))) (now («package» .entry)) filling extra (now (out .entry)) ⌝ }
+    ensures { λ r. ⌜ left r (now (out .exit)) ≡ sealed (lockOf (now (info .entry)) (now (password .entry)) scheme) (now («package» .entry)) filling extra (now (out .entry)) ⌝ }
 {
-    let u = password::unlock(info, password);
+    let u = password::unlock(info, password, scheme);
     let n = package.len();
     let a = answers::then(u.answer, package_answer(extra, n, out.len()));
     if a != answers::DONE {
@@ -71,7 +90,8 @@ pub fn seal(
     }
     let whole = lengths::rounded(extra, n);
     let key = u.key;
+    let mode = mode_of(u.fields, n);
     octets::put_le64(out, 0, n as u64);
-    blocks::encrypt(key, blocks::start(), package, filling, whole, out, 8);
+    blocks::encrypt(key, mode, blocks::start(), package, filling, whole, out, 8);
     answers::ended(answers::DONE, 8 + whole, out)
 }

@@ -15,21 +15,27 @@ module _ (step : Step) (s t : List ℕ) where
   abbrev u : ℕ
   u = step .width
 
-  -- each unit: itself, and the one before it unless it starts
+  -- a unit: itself, and the one before it unless it starts
+  one-alike : (i : ℕ) → unit u i s ≡ unit u i t → Starts step i ⊎ (before step i s ≡ before step i t)
+      → step .back i (before step i s) (unit u i s) ≡ step .back i (before step i t) (unit u i t)
+  one-alike i q (inl e) = e .alike (before step i s) (before step i t) (unit u i s) ∙ ap (step .back i (before step i t)) q
+  one-alike i q (inr e) = ap₂ (step .back i) e q
+
+  -- each of several, where the first of them starts or has the same unit before it
   unit-alike : (i k : ℕ) → ((j : ℕ) → j ≤ k → unit u (i + j) s ≡ unit u (i + j) t) → Starts step i ⊎ (before step i s ≡ before step i t)
       → step .back (i + k) (before step (i + k) s) (unit u (i + k) s) ≡ step .back (i + k) (before step (i + k) t) (unit u (i + k) t)
   unfolding before
-  unit-alike i zero h (inl e) =
-      let q = rw add-zero at (h zero (omega arith)) in
-      rw (add-zero i) (e .alike (before step i s) (before step i t) (unit u i s) ∙ ap (step .back i (before step i t)) q)
-  unit-alike i zero h (inr e) =
-      let q = rw add-zero at (h zero (omega arith)) in
-      rw (add-zero i) (ap₂ (step .back i) e q)
+  unit-alike i zero h e = rw (add-zero i) (one-alike i (rw add-zero at (h zero (omega arith))) e)
   unit-alike i (suc k) h e =
       let q = h (suc k) (omega arith) in
       rw (add-suc i k) (ap₂ (step .back (suc (i + k))) (h k (omega arith)) (rw (add-suc i k) at q))
 
   module _ (z : Sized step) where
+    -- the law of blocks: unit i of what is opened depends on unit i of the ciphertext and, unless it starts, on the one before it
+    pub opened-alike : (i n : ℕ) → i < n → unit u i s ≡ unit u i t → Starts step i ⊎ (before step i s ≡ before step i t)
+        → unit u i (openUnits step n s) ≡ unit u i (openUnits step n t)
+    opened-alike i n l e b = unit-open step z s i n l ∙ one-alike i e b ∙ sym (unit-open step z t i n l)
+
     -- m units from unit i on
     pub open-alike : (i m n : ℕ) → i + m ≤ n → ((j : ℕ) → j < m → unit u (i + j) s ≡ unit u (i + j) t)
         → Starts step i ⊎ (before step i s ≡ before step i t)

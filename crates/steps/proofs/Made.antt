@@ -3,7 +3,7 @@
 use mathlib.Core.Path.{_≡_, refl, sym, ap, ap₂, _∙_}
 use mathlib.Core.List.{List, _++_}
 use Prim.Native.Nat.{ℕ, zero, suc, _*_, _/_, _≤_, _<_}
-use native.Mathlib.Nat.{le-refl}
+use native.Mathlib.Nat.{le-refl, zero-add}
 use native.Mathlib.Omega.{arith}
 use lib.ListN.{length, take}
 use lib.Seq.{take-append-le}
@@ -53,6 +53,10 @@ module _ (step : Step) where
 
     pub seal-front : sealUnits step n (x ++ y) ≡ sealUnits step n x
     seal-front = seal-same n (x ++ y) x (take-append-le (u * n) x y h)
+
+  -- from unit 0 on, after what stands there, is all of it
+  pub resumed-none : resumed 0 (step .first) step ≡ step
+  resumed-none = λ t. record { width = u; first = step .first; there = λ j. step .there (zero-add j t); back = λ j. step .back (zero-add j t) }
 
   -- ---- units of one length
 

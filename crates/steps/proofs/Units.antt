@@ -1,15 +1,29 @@
 -- What grows by a unit at a time has the unit of turn i as its unit i, and two that grow by equal units are equal. Assumes nothing.
-use mathlib.Core.Path.{_≡_, sym, ap, ap₂, _∙_}
-use mathlib.Core.List.{List, [], _++_}
+use mathlib.Core.Path.{_≡_, refl, sym, ap, ap₂, _∙_}
+use mathlib.Core.List.{List, [], _∷_, _++_}
 use Prim.Native.Nat.{ℕ, zero, suc, _+_, _-_, _*_, _≤_, _<_}
-use native.Mathlib.Nat.{zero-add, add-zero, add-suc, mul-zero, mul-suc, mul-add, mul-le-mul-left}
+use native.Mathlib.Nat.{zero-add, add-zero, add-suc, sub-zero, zero-sub, suc-sub-suc, mul-zero, mul-suc, mul-add, mul-le-mul-left}
 use native.Mathlib.Omega.{arith}
 use lib.ListN.{length, take, drop, length-append}
-use lib.Seq.{take-all, take-add, take-append-le, drop-at, drop-drop}
+use lib.Seq.{take-nil, take-all, take-add, take-append-le, drop-at, drop-drop}
 use Rattle.octets.specs.Octets.{Bytes}
 use Rattle.octets.proofs.Parts.{drop-take, length-part, part-part}
 use Rattle.octets.proofs.Below.{nil-bytes, append-below, take-below, drop-below}
 use Rattle.steps.specs.Steps.{unit, FullUnit}
+
+-- ---- a stream that is cut
+
+drop-cut : (o n : ℕ) (s : List ℕ) → drop o (take n s) ≡ take (n - o) (drop o s)
+drop-cut zero n s = rw sub-zero
+drop-cut (suc o) zero s = rw zero-sub
+drop-cut (suc o) (suc n) [] = sym (take-nil (suc n - suc o))
+drop-cut (suc o) (suc n) (x ∷ s) = rw suc-sub-suc (drop-cut o n s)
+
+take-swap : (m n : ℕ) (s : List ℕ) → take m (take n s) ≡ take n (take m s)
+take-swap zero n s = sym (take-nil n)
+take-swap (suc m) zero s = refl
+take-swap (suc m) (suc n) [] = refl
+take-swap (suc m) (suc n) (x ∷ s) = ap (_∷_ x) (take-swap m n s)
 
 -- ---- the units of a stream
 
@@ -34,6 +48,11 @@ module _ (u : ℕ) where
   unit-take : (i m : ℕ) (s : List ℕ) → u * i + u ≤ m → unit u i (take m s) ≡ unit u i s
   unfolding unit
   unit-take i m s h = rw zero-add at (part-part u (u * i) m 0 s h)
+
+  -- of a stream that is cut at n, what is left of unit i
+  pub unit-cut : (i n : ℕ) (s : List ℕ) → unit u i (take n s) ≡ take (n - u * i) (unit u i s)
+  unfolding unit
+  unit-cut i n s = ap (take u) (drop-cut (u * i) n s) ∙ take-swap u (n - u * i) (drop (u * i) s)
 
   -- streams with the same first n units
   pub unit-same : (i n : ℕ) (s t : List ℕ) → i < n → take (u * n) s ≡ take (u * n) t → unit u i s ≡ unit u i t

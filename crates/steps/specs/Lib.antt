@@ -1,4 +1,5 @@
 pub mod Stream
 pub mod Steps
 pub mod Ecb
+pub mod Chained
 pub mod Feeding

@@ -34,7 +34,7 @@ fn verdict(name: &[u8], password: &[u16]) {
     lines::text(b"verdict ");
     lines::text(name);
     lines::text(b": answer ");
-    lines::number(password::verdict(&info, password) as u64);
+    lines::number(password::verdict(&info, password, descriptor::ECB) as u64);
     lines::text(b"\n");
 }
 

@@ -3,9 +3,11 @@
 mod ciphers;
 mod hashes;
 mod keys;
+mod starts;
 
 fn main() {
     hashes::all();
     ciphers::all();
     keys::all();
+    starts::all();
 }

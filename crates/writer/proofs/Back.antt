@@ -2,13 +2,14 @@
 -- Assumes nothing.
 use mathlib.Core.Path.{_≡_, refl, sym, ap, _∙_}
 use mathlib.Core.Logic.{inl, inr}
-use mathlib.Core.List.{List}
+use mathlib.Core.List.{List, [], _∷_}
 use Prim.Native.Nat.{ℕ, _+_, _/_}
 use native.Mathlib.Omega.{arith}
 use lib.Dec.{lit<}
 use lib.ListN.{length, take, drop}
 use Rattle.octets.specs.Octets.{Bytes}
 use Rattle.octets.proofs.Below.{nil-bytes}
+use Rattle.answers.specs.Rules.{OneOf}
 use Rattle.descriptor.specs.Info.{keySize, algIdOf, described}
 use Rattle.descriptor.specs.LaidOut.{Fields}
 use Rattle.descriptor.specs.declared.Descriptor.{Descriptor}
@@ -44,8 +45,8 @@ module _ (bits : ℕ) (password name salt verifier filling : List ℕ) where
   fields = newFields bits key name salt verifier filling
 
   -- what the descriptor of it says
-  abbrev pub newDescriptor : Descriptor
-  newDescriptor =
+  abbrev pub newDescriptor : (scheme : ℕ) → Descriptor
+  newDescriptor scheme =
       record {
         major = 3;
         minor = 2;
@@ -56,6 +57,7 @@ module _ (bits : ℕ) (password name salt verifier filling : List ℕ) where
         salt = salt;
         «encrypted_verifier» = verifierField (verifierSealing key) verifier filling;
         «encrypted_verifier_hash» = hashField (verifierSealing key) verifier filling;
+        scheme = scheme;
       }
 
   module _ (g : Given) where
@@ -108,7 +110,7 @@ module _ (bits : ℕ) (password name salt verifier filling : List ℕ) where
     unfolding infoOf
     info-admitted = laid-admitted fields sized held good
 
-    pub info-described : described info ≡ newDescriptor
+    pub info-described : (scheme : ℕ) → described info scheme ≡ newDescriptor scheme
     unfolding infoOf newFields
     info-described = laid-described fields sized held
 
@@ -130,10 +132,10 @@ module _ (bits : ℕ) (password name salt verifier filling : List ℕ) where
         let f = fields-bytes verifier filling (g .verifier-long) (g .filling-long) key (keyBytes-bytes (bits / 8) salt password) v r in
         laid-bytes fields n nil-bytes b (f .0) (f .1)
 
-    -- the fields open to what was sealed, so the password is accepted
-    pub info-accepted : judged (lockOf info password) ≡ 0
-    info-accepted =
-        accepted (lockOf info password) info-admitted (g .fits .typed)
-        (ap (λ (d : Descriptor). Matched d password) info-described
-        ∙ ap (λ (k : List ℕ). matches (verifierOpening k) (verifierField (verifierSealing key) verifier filling) (hashField (verifierSealing key) verifier filling)) (keyOf-is newDescriptor password)
+    -- the fields open to what was sealed, so the password is accepted, under every scheme
+    pub info-accepted : (scheme : ℕ) → OneOf (1 ∷ 2 ∷ []) scheme → judged (lockOf info password scheme) ≡ 0
+    info-accepted scheme o =
+        accepted (lockOf info password scheme) info-admitted o (g .fits .typed)
+        (ap (λ (d : Descriptor). Matched d password) (info-described scheme)
+        ∙ ap (λ (k : List ℕ). matches (verifierOpening k) (verifierField (verifierSealing key) verifier filling) (hashField (verifierSealing key) verifier filling)) (keyOf-is (newDescriptor scheme) password)
         ∙ fields-match verifier filling (g .verifier-long) (g .filling-long) key (keyBytes-bytes (bits / 8) salt password))

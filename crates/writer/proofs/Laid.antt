@@ -20,9 +20,10 @@ use Rattle.aes.specs.Aes.{keyLength, expanded}
 use Rattle.aes.specs.declared.Expanded.{Expanded}
 use Rattle.steps.specs.Steps.{sealAll}
 use Rattle.steps.proofs.Made.{length-seal-all}
-use Rattle.blocks.specs.Blocks.{ecbUnder, stepFrom, streamStart}
+use Rattle.blocks.specs.Blocks.{ecbUnder, stepFrom, ecbMode, streamStart}
+use Rattle.blocks.specs.declared.Mode.{Mode}
 use Rattle.blocks.specs.declared.Place.{Place}
-use Rattle.blocks.proofs.Aes.{under-width, under-sized, laid-under}
+use Rattle.blocks.proofs.Aes.{under-width, under-sized, ecb-started, laid-under}
 use Rattle.descriptor.specs.Info.{algIdOf}
 use Rattle.descriptor.specs.LaidOut as LaidOut
 use Rattle.password.specs.Verifier.{verifierSealing, verifierPlain, verifierField, hashField}
@@ -52,12 +53,13 @@ plain-laid digest v filling b₁ b₂ b₃ d lv lf e₁ e₂ e₃ =
     whole (more 36 12 0 filling b₃ hash lf e₃) ∙ append-assoc v (sha1 v) filling
 
 -- 48 bytes encrypted into as many
-pub sealed-laid : (key : Expanded) (p : Place) (k s rest x : List ℕ) → keyLength (length k) ≡ true → key ≡ expanded k → p ≡ streamStart → length s ≡ 48
-    → x ≡ paste (replicate 48 0) 0 (sealAll (stepFrom p (key .bytes) (key .rounds)) (take 48 (s ++ rest))) 48
+pub sealed-laid : (key : Expanded) (m : Mode) (p : Place) (k s rest x : List ℕ) → keyLength (length k) ≡ true → key ≡ expanded k → m ≡ ecbMode
+    → p ≡ streamStart → length s ≡ 48 → x ≡ paste (replicate 48 0) 0 (sealAll (stepFrom p m (key .bytes) (key .rounds)) (take 48 (s ++ rest))) 48
     → x ≡ verifierSealing k s
 unfolding verifierSealing
-sealed-laid key p k s rest x t q h l e =
-    laid-under k t sealAll key p 48 (replicate 48 0) s x q h refl (length-seal-all (ecbUnder k) (under-sized k) s ∙ rw (under-width k, l))
+sealed-laid key m p k s rest x t q g h l e =
+    laid-under sealAll (stepFrom p m (key .bytes) (key .rounds)) (ecbUnder k) 48 (replicate 48 0) s x
+    (ecb-started k t m key p (ap (λ (n : Mode). n .chained) g) q h) refl (length-seal-all (ecbUnder k) (under-sized k) s ∙ rw (under-width k, l))
     (rw (take-at s rest 48 l) at e)
 
 -- a part of the fields

@@ -29,7 +29,16 @@ fn sealed(key: Expanded, plain: [u8; 48]) -> [u8; 48]
 {
     let none = [0u8; 16];
     let mut b = [0u8; 48];
-    blocks::encrypt(key, blocks::start(), &plain, none, 48, &mut b, 0);
+    blocks::encrypt(
+        key,
+        blocks::ecb(),
+        blocks::start(),
+        &plain,
+        none,
+        48,
+        &mut b,
+        0,
+    );
     b
 }
 

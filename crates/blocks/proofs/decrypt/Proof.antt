@@ -6,6 +6,10 @@ use Rattle.fips197.specs.Tables.{invSbox}
 use Rattle.blocks.proofs.decrypt.Statement.{statement}
 use Rattle.blocks.proofs.decrypt.Tie as tie
 
+-- an expanded key has 240 bytes
+key-long : (c : tie.Start) → length (c .args .key .bytes) ≡ 240
+key-long c = search needs
+
 inverse-requires : tie.Need-inverse-requires
 unfolding invSbox
 inverse-requires c κs = (refl, c .before .before .shares .ensures)
@@ -20,8 +24,7 @@ decrypt-with-requires c κs =
     let i = m .before .before .before in
     let st = i .before .before .before .before .before .before .before in
     let p = st .pre in
-    let long : length (st .args .key .bytes) ≡ 240 = search needs in
-    ((p .0 .0, p .0 .1, long, search needs), ((m .mixed .ensures, refl, i .inverse .ensures), p .1))
+    ((p .0 .0, p .0 .1, key-long st, search needs), ((m .mixed .ensures, refl, i .inverse .ensures), p .1))
 
 returns : tie.Need-returns
 returns c = c .before .before .decrypt-with .ensures

@@ -9,36 +9,35 @@ use lib.ListN.{length, take, length-append}
 use lib.Seq.{paste, paste-zero, length-take-le}
 use Rattle.octets.proofs.Parts.{part-part}
 use Rattle.steps.specs.Steps.{unit, before, sealAll}
-use Rattle.steps.specs.Ecb.{ecb}
 use Rattle.steps.proofs.Turns.{seal-turn, seal-last}
-use Rattle.blocks.specs.Blocks.{ecbBy, stepFrom}
+use Rattle.blocks.specs.Blocks.{modeStep, stepBy, stepFrom}
 use Rattle.blocks.proofs.Aes.{by-sized}
 use Rattle.blocks.proofs.encrypt_with.Statement.{statement}
 use Rattle.blocks.proofs.encrypt_with.Tie as tie
 
 abbrev Inv-loop : tie.InvT-loop
-Inv-loop w rounds table words place src filling size out₀ at p₀ i₀ out p i =
+Inv-loop w rounds table words mode place src filling size out₀ at p₀ i₀ out p i =
     (i ≤ size) × (i % 16 ≡ 0) × (length out ≡ length out₀)
-    × (out ≡ paste out₀ at (sealAll (stepFrom place w rounds) (take size (src ++ filling))) i)
-    × (i < size → p ≡ before (stepFrom place w rounds) (i / 16) (sealAll (stepFrom place w rounds) (take size (src ++ filling))))
+    × (out ≡ paste out₀ at (sealAll (stepFrom place mode w rounds) (take size (src ++ filling))) i)
+    × (i < size → p ≡ before (stepFrom place mode w rounds) (i / 16) (sealAll (stepFrom place mode w rounds) (take size (src ++ filling))))
 
 abbrev μ-loop : tie.MeasureT-loop
-μ-loop w rounds table words place src filling size out₀ at p₀ i₀ out p i = size - i
+μ-loop w rounds table words mode place src filling size out₀ at p₀ i₀ out p i = size - i
 
 loop-holds : tie.Need-loop-holds Inv-loop μ-loop
 unfolding before
 loop-holds c =
     let a = c .before .before .before .args in
-    (omega arith, refl, refl, paste-zero (a .out .now) (a .at) (sealAll (stepFrom (a .place) (a .w .now) (a .rounds)) (take (a .size) (a .src .now ++ a .filling .now))), λ h. refl)
+    (omega arith, refl, refl, paste-zero (a .out .now) (a .at) (sealAll (stepFrom (a .place) (a .mode) (a .w .now) (a .rounds)) (take (a .size) (a .src .now ++ a .filling .now))), λ h. refl)
 
 filled-block-requires : tie.Need-filled-block-requires Inv-loop μ-loop
 filled-block-requires c κs = (omega arith, c .before .before .before .before .before .pre .0 .3)
 
 seal-block-requires : tie.Need-seal-block-requires Inv-loop μ-loop
-seal-block-requires c κs = let p = c .before .before .before .before .before .before .before .pre in ((p .0 .0, p .0 .1, p .0 .2), p .1 .0)
+seal-block-requires c κs = let p = c .before .before .before .before .before .before .before .pre in ((p .0 .0, p .0 .1, p .0 .2), (p .1 .0, p .1 .1 .4))
 
 loop-again : tie.Need-loop-again Inv-loop μ-loop
-unfolding sealAll before unit ecbBy ecb
+unfolding sealAll before unit stepBy modeStep
 loop-again c =
     let o = c .before .before .copy in
     let q = c .before .before .before .before .before in
@@ -54,8 +53,8 @@ loop-again c =
     let x : List ℕ = a .src .now ++ a .filling .now in
     let s : List ℕ = take (a .size) x in
     let long : length s ≡ a .size = length-take-le (a .size) x (rw length-append (omega arith)) in
-    let step = stepFrom (a .place) (a .w .now) (a .rounds) in
-    let z = by-sized (a .place) (a .w .now) (a .rounds) in
+    let step = stepFrom (a .place) (a .mode) (a .w .now) (a .rounds) in
+    let z = by-sized (a .place) (a .mode) (a .w .now) (a .rounds) in
     let n = length s / 16 in
     let ex : f .result ≡ unit 16 k s = f .ensures ∙ rw (here, part-part 16 (l .i) (a .size) 0 x (omega arith), zero-add) in
     let ep = l .inv .4 (t .loop-test .taken) in (

@@ -3,7 +3,7 @@ use mathlib.Core.Path.{sym, ap, subst, _∙_}
 use mathlib.Core.Logic.{⊎-elim, inl, inr}
 use borrow.Author.Needs.{needs}
 use Rattle.descriptor.specs.declared.Parsed.{Parsed}
-use Rattle.descriptor.proofs.Laws.{Admitted, parsed-answer, parsed-fields}
+use Rattle.descriptor.proofs.Laws.{Parses, parsed-answer, parsed-fields}
 use Rattle.crossing.specs.Crossing.{descriptorBytes, Crosses}
 use Rattle.crossing.proofs.Bounds.{described-fits}
 use Rattle.capi.specs.Capi as Capi
@@ -15,9 +15,10 @@ descriptor-bytes-requires : tie.Need-descriptor-bytes-requires
 descriptor-bytes-requires c κs =
     let p = c .before .before .before in
     let info = p .before .before .args .info .now in
-    let h : Admitted info = sym (ap (λ (q : Parsed). q .answer) (p .parse .ensures) ∙ parsed-answer info) ∙ c .before .if1 .taken in
-    let e = ap (λ (q : Parsed). q .fields) (p .parse .ensures) ∙ parsed-fields info h in
-    subst Crosses (sym e) (described-fits info h)
+    let scheme = p .before .before .args .scheme in
+    let h : Parses info scheme = sym (ap (λ (q : Parsed). q .answer) (p .parse .ensures) ∙ parsed-answer info scheme) ∙ c .before .if1 .taken in
+    let e = ap (λ (q : Parsed). q .fields) (p .parse .ensures) ∙ parsed-fields info scheme h in
+    subst Crosses (sym e) (described-fits info scheme h)
 
 returns : tie.Need-returns
 unfolding Capi.parseOutcome

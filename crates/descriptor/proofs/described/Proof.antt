@@ -36,13 +36,13 @@ thirty-two-requires c κs =
     let s = c .before .before .before .before in
     omega (arith, size s, info-length _ (admitted s))
 
-sub-t7 : tie.Need-sub-t7
-sub-t7 c =
+sub-t8 : tie.Need-sub-t8
+sub-t8 c =
     let s = c .before .before .before .before .before .before in
     omega (arith, size s, header-low _ (admitted s))
 
-sub-t10 : tie.Need-sub-t10
-sub-t10 c =
+sub-t11 : tie.Need-sub-t11
+sub-t11 c =
     let s = c .before .before .before .before .before .before .before in
     omega (arith, size s, extra s, extra-fits _ (admitted s))
 
@@ -69,7 +69,7 @@ described-spec =
     (λ c. search needs)
     thirty-two-requires
     (λ c κs. search needs)
-    sub-t7
+    sub-t8
     (λ c. search needs)
-    sub-t10
+    sub-t11
     returns)

@@ -10,7 +10,7 @@ use Rattle.blocks.proofs.Aes.{expanded-rounds}
 use Rattle.descriptor.specs.Info.{described}
 use Rattle.descriptor.specs.declared.Descriptor.{Descriptor}
 use Rattle.descriptor.specs.declared.Parsed.{Parsed}
-use Rattle.descriptor.proofs.Laws.{Admitted, parsed-fields, well-formed}
+use Rattle.descriptor.proofs.Laws.{Parses, parsed-fields, well-formed}
 use Rattle.password.specs.Lock.{lockOf}
 use Rattle.password.specs.Verifier.{verifierOpening, matches}
 use Rattle.password.specs.Verdict as Verdict
@@ -20,25 +20,25 @@ use Rattle.password.proofs.unlock.Tie as tie
 
 -- what is answered before anything is hashed
 early : (c : tie.After-early-answer) → let a = c .before .before .before .before .args in
-    c .early-answer .result ≡ firstOf (Verdict.earlyRules (lockOf (a .info .now) (a .password .now)))
+    c .early-answer .result ≡ firstOf (Verdict.earlyRules (lockOf (a .info .now) (a .password .now) (a .scheme)))
 early c =
     let a = c .before .before .before .before .args in
     c .early-answer .ensures ∙ ap (λ (x : Parsed). Verdict.earlyOf x (a .password .now)) (c .before .parse .ensures)
-    ∙ sym (early-parsed (lockOf (a .info .now) (a .password .now)))
+    ∙ sym (early-parsed (lockOf (a .info .now) (a .password .now) (a .scheme)))
 
 passed : (c : tie.Else1) → let a = c .before .before .before .before .before .args in
-    firstOf (Verdict.earlyRules (lockOf (a .info .now) (a .password .now))) ≡ 0
+    firstOf (Verdict.earlyRules (lockOf (a .info .now) (a .password .now) (a .scheme))) ≡ 0
 passed c = sym (early (c .before)) ∙ c .if1 .left
 
 both : (c : tie.Else1) → let a = c .before .before .before .before .before .args in
-    Admitted (a .info .now) × (firstOf (Verdict.textRules (a .password .now)) ≡ 0)
+    Parses (a .info .now) (a .scheme) × (firstOf (Verdict.textRules (a .password .now)) ≡ 0)
 both c = early-zero _ (passed c)
 
-admitted : (c : tie.Else1) → Admitted (c .before .before .before .before .before .args .info .now)
+admitted : (c : tie.Else1) → let a = c .before .before .before .before .before .args in Parses (a .info .now) (a .scheme)
 admitted c = both c .0
 
-fields : (c : tie.Else1) → c .before .before .parse .result .fields ≡ described (c .before .before .before .before .before .args .info .now)
-fields c = ap (λ (p : Parsed). p .fields) (c .before .before .parse .ensures) ∙ parsed-fields _ (admitted c)
+fields : (c : tie.Else1) → let a = c .before .before .before .before .before .args in c .before .before .parse .result .fields ≡ described (a .info .now) (a .scheme)
+fields c = ap (λ (p : Parsed). p .fields) (c .before .before .parse .ensures) ∙ parsed-fields _ _ (admitted c)
 
 returns : tie.Need-returns
 returns c =
@@ -49,11 +49,11 @@ expanded-key-requires : tie.Need-expanded-key-requires
 expanded-key-requires c κs =
     let e = c .before .before .before in
     let a = e .before .before .before .before .before .args in
-    (rw (fields e) (omega (arith, key-short (described (a .info .now)) (a .password .now) (well-formed _ (admitted e)))), text-short _ .0 (both e .1))
+    (rw (fields e) (omega (arith, key-short (described (a .info .now) (a .scheme)) (a .password .now) (well-formed _ _ (admitted e)))), text-short _ .0 (both e .1))
 
 -- the expanded key is that of the descriptor and the password
 key : (c : tie.After-expanded-key) → let a = c .before .before .before .before .before .before .before .before .before .args in
-    c .expanded-key .result ≡ expanded (Verdict.keyOf (described (a .info .now)) (a .password .now))
+    c .expanded-key .result ≡ expanded (Verdict.keyOf (described (a .info .now) (a .scheme)) (a .password .now))
 unfolding Verdict.keyOf
 key c =
     let e = c .before .before .before .before in
@@ -64,19 +64,19 @@ matches-requires c κs =
     let k = c .before .before in
     let e = k .before .before .before .before in
     let a = e .before .before .before .before .before .args in
-    let d = described (a .info .now) in
-    subst⁻¹ (λ (x : Expanded). (0 < x .rounds) × (x .rounds ≤ 14)) (key k) (expanded-rounds (Verdict.keyOf d (a .password .now)) (key-fits d (a .password .now) (well-formed _ (admitted e))))
+    let d = described (a .info .now) (a .scheme) in
+    subst⁻¹ (λ (x : Expanded). (0 < x .rounds) × (x .rounds ≤ 14)) (key k) (expanded-rounds (Verdict.keyOf d (a .password .now)) (key-fits d (a .password .now) (well-formed _ _ (admitted e))))
 
 -- what the check says of it
 checked : (c : tie.After-matches) → let a = c .before .before .before .before .before .before .before .before .before .before .before .before .args in
-    c .matches .result ≡ Matched (described (a .info .now)) (a .password .now)
+    c .matches .result ≡ Matched (described (a .info .now) (a .scheme)) (a .password .now)
 checked c =
     let k = c .before .before .before in
     let e = k .before .before .before .before in
     let a = e .before .before .before .before .before .args in
-    let d = described (a .info .now) in
+    let d = described (a .info .now) (a .scheme) in
     let k′ = Verdict.keyOf d (a .password .now) in
-    c .matches .ensures k′ (key-fits d (a .password .now) (well-formed _ (admitted e))) (key k)
+    c .matches .ensures k′ (key-fits d (a .password .now) (well-formed _ _ (admitted e))) (key k)
     ∙ ap (λ (x : Descriptor). matches (verifierOpening k′) (x .«encrypted_verifier») (x .«encrypted_verifier_hash»)) (fields e)
 
 returns-2 : tie.Need-returns-2

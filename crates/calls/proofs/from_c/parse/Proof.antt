@@ -6,7 +6,7 @@ use Rattle.calls.proofs.from_c.parse.Statement.{statement}
 use Rattle.calls.proofs.from_c.parse.Tie as tie
 
 returns : tie.Need-returns
-returns c = carried (DescriptorOut _ _) (c .ropeshadow-parse .ensures) (descriptor-out _ _)
+returns c = carried (DescriptorOut _ _ _) (c .ropeshadow-parse .ensures) (descriptor-out _ _ _)
 
 pub parse-spec : {M : Type 1} → statement M
 parse-spec = tie.close (tie.spec (λ c κs. search needs) returns)

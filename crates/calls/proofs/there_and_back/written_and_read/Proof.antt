@@ -32,7 +32,7 @@ unfolding writes
 returns c =
     let p = c .before .before in
     let w = p .before .before .before .before in
-    read _ _ (typed (w .before .before .before .before .before)) _ _ (w .write-info .ensures) _ _ (p .parse .ensures) (c .verdict .ensures)
+    read _ _ (typed (w .before .before .before .before .before)) _ _ (w .write-info .ensures) _ _ _ (p .parse .ensures) (c .verdict .ensures)
 
 pub written-and-read-spec : {M : Type 1} → statement M
 written-and-read-spec =

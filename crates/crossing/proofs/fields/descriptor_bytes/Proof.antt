@@ -15,12 +15,13 @@ copy-requires-4 c κs = search needs
 
 returns : tie.Need-returns
 returns c =
-    let third = c .before .before .before .before .before in
+    let fourth = c .before .before .before .before .before in
+    let third = fourth .before .before .before .before in
     let second = third .before .before .before .before in
     let first = second .before .before .before .before in
     let numbers = first .before .before .before .before .before .before in
-    fields-laid (numbers .before .args .d) _ _ _ _ _ (numbers .before .pre) (numbers .numbers .ensures)
-    (first .copy .ensures) (second .copy2 .ensures) (third .copy3 .ensures) (c .before .copy4 .ensures)
+    fields-laid (numbers .before .args .d) _ _ _ _ _ _ (numbers .before .pre) (numbers .numbers .ensures)
+    (first .copy .ensures) (second .copy2 .ensures) (third .copy3 .ensures) (fourth .copy4 .ensures) (c .before .put-le32 .ensures)
 
 pub descriptor-bytes-spec : {M : Type 1} → statement M
 descriptor-bytes-spec =
@@ -39,4 +40,7 @@ descriptor-bytes-spec =
     (λ c. search needs)
     (λ c. search needs)
     copy-requires-4
+    (λ c. search needs)
+    (λ c. search needs)
+    (λ c κs. search needs)
     returns)

@@ -1,0 +1,123 @@
+-- Our opener keeps the law of blocks: it is the law of any step, of which each scheme is one. Assumes nothing.
+use mathlib.Core.Path.{_≡_, refl, sym, ap, subst, _∙_}
+use mathlib.Core.Logic.{_⊎_, inl, inr}
+use mathlib.Core.Bool.{Bool, true, false}
+use mathlib.Core.List.{List, []}
+use Prim.Native.Nat.{ℕ, zero, suc, _-_, _*_, _/_, _≤_, _<_}
+use native.Mathlib.Nat.{mul-le-mul-left}
+use native.Mathlib.Omega.{arith}
+use borrow.Author.Tests.{eqb-true, eqb-false, ltb-true, ltb-false}
+use lib.Dec.{ltb, eqb}
+use lib.ListN.{length, take, drop, length-drop, drop-of-length-le}
+use lib.Seq.{take-at, take-nil}
+use Rattle.answers.specs.Rules.{firstOf}
+use Rattle.answers.specs.Ended.{Left}
+use Rattle.answers.proofs.Laws.{either}
+use Rattle.steps.specs.Steps.{Step, unit, before, openUnits, openAll, Starts, Sized}
+use Rattle.steps.specs.Chained.{begins}
+use Rattle.steps.proofs.Units.{unit-cut}
+use Rattle.steps.proofs.Made.{length-open}
+use Rattle.steps.proofs.Alike.{opened-alike}
+use Rattle.descriptor.specs.Info.{described}
+use Rattle.password.specs.Lock.{Lock, descriptorOf}
+use Rattle.lengths.specs.Lengths.{streamSize, lengthRules}
+use Rattle.sheet.specs.Frame.{pairOf}
+use Rattle.sheet.specs.Scheme.{stepOf}
+use Rattle.sheet.specs.Sheet.{streamRules, openRules, sheetKey, sheetStep, opening, packageOf, opened}
+use Rattle.sheet.proofs.Scheme.{step-width, step-sized, step-starts}
+use Rattle.sheet.proofs.Laws.{open-answer}
+use Rattle.promises.specs.Words.{writtenPart}
+use Rattle.promises.specs.BlockLaw.{Linked, Agree, BlockLaw}
+use Rattle.promises.proofs.Demand1.{demand-1}
+
+-- what an opening wrote: the package, or nothing
+module _ (lock : Lock) (s out : List ℕ) where
+  wrote-package : opened lock s out .reply .answer ≡ 0 → writtenPart (opened lock s out) ≡ packageOf lock s
+  wrote-package z =
+      let h = demand-1 .opening lock s out .accepted z in
+      ap (take (opened lock s out .reply .size)) (h .bytes) ∙ take-at (packageOf lock s) _ _ (sym (h .size))
+
+  wrote-none : (opened lock s out .reply .answer ≡ 0 → ⊥) → writtenPart (opened lock s out) ≡ []
+  wrote-none z = rw (demand-1 .opening lock s out .ends .refused z .none)
+
+module _ (lock : Lock) (i : ℕ) (s t : List ℕ) (a : Agree (lock .scheme) i s t) where
+  abbrev size : ℕ
+  size = streamSize s
+
+  step : Step
+  step = stepOf (descriptorOf lock) (sheetKey lock) size
+
+  width : step .width ≡ 16
+  unfolding step
+  width = step-width (descriptorOf lock) (sheetKey lock) size
+
+  sized : Sized step
+  unfolding step
+  sized = step-sized (descriptorOf lock) (sheetKey lock) size
+
+  -- the block before agrees wherever the step is chained to it
+  linked : (j : ℕ) → i ≡ j → Linked (lock .scheme) size i → before step j (drop 8 s) ≡ before step j (drop 8 t)
+  unfolding before
+  linked zero e l = refl
+  linked (suc j) e l = let k : i - 1 ≡ j = omega arith in rw (width, ← k) (a .before l)
+
+  joint : Starts step i ⊎ (before step i (drop 8 s) ≡ before step i (drop 8 t))
+  unfolding step described
+  joint =
+      elim (either (eqb (lock .scheme) 2)) [
+        | inl e ↦ elim (either (begins size i)) [
+          | inl b ↦ inl (step-starts (descriptorOf lock) (sheetKey lock) size i (λ q. b))
+          | inr b ↦ inr (linked i refl (eqb-true _ _ e, b))
+        ]
+        | inr e ↦ inl (step-starts (descriptorOf lock) (sheetKey lock) size i (λ q. absurd (eqb-false (lock .scheme) 2 e q)))
+      ]
+
+  -- behind n units there is none
+  past : (n : ℕ) → n ≤ i → (x : List ℕ) → unit 16 i (openUnits step n x) ≡ []
+  unfolding unit
+  past n h x =
+      let e : length (openUnits step n x) ≡ 16 * n = length-open step sized x n ∙ rw width in
+      ap (take 16) (drop-of-length-le (openUnits step n x) {i = 16 * i} (omega arith)) ∙ take-nil 16
+
+  -- n units of each, and so all of them: block i agrees, where there is one
+  units-alike : (n : ℕ) → unit 16 i (openUnits step n (drop 8 s)) ≡ unit 16 i (openUnits step n (drop 8 t))
+  units-alike n =
+      elim (either (ltb i n)) [
+        | inl l ↦ subst (λ (u : ℕ). unit u i (openUnits step n (drop 8 s)) ≡ unit u i (openUnits step n (drop 8 t))) width
+            (opened-alike step (drop 8 s) (drop 8 t) sized i n (ltb-true i n l) (rw width (a .block)) joint)
+        | inr l ↦ past n (ltb-false i n l) (drop 8 s) ∙ sym (past n (ltb-false i n l) (drop 8 t))
+      ]
+
+  all-alike : unit 16 i (openAll step (drop 8 s)) ≡ unit 16 i (openAll step (drop 8 t))
+  unfolding openAll
+  all-alike =
+      let n = length (drop 8 s) / step .width in
+      let e : length (drop 8 t) ≡ length (drop 8 s) = length-drop 8 t ∙ rw (← a .long) (sym (length-drop 8 s)) in
+      units-alike n ∙ ap (λ (m : ℕ). unit 16 i (openUnits step (m / step .width) (drop 8 t))) (sym e)
+
+  -- cut to the size
+  package-alike : unit 16 i (packageOf lock s) ≡ unit 16 i (packageOf lock t)
+  unfolding packageOf pairOf opening sheetStep step
+  package-alike =
+      unit-cut 16 i size (openAll step (drop 8 s)) ∙ ap (take (size - 16 * i)) all-alike ∙ sym (unit-cut 16 i size (openAll step (drop 8 t)))
+      ∙ ap (λ (m : ℕ). unit 16 i (take m (openAll (stepOf (descriptorOf lock) (sheetKey lock) m) (drop 8 t)))) (a .size)
+
+  module _ (out : List ℕ) where
+    same-rules : openRules lock s (length out) ≡ openRules lock t (length out)
+    unfolding openRules streamRules
+    same-rules = rw (a .long, a .size)
+
+    same-answer : opened lock s out .reply .answer ≡ opened lock t out .reply .answer
+    same-answer = open-answer lock s out ∙ ap firstOf same-rules ∙ sym (open-answer lock t out)
+
+    same : unit 16 i (writtenPart (opened lock s out)) ≡ unit 16 i (writtenPart (opened lock t out))
+    same =
+        elim (either (eqb (opened lock s out .reply .answer) 0)) [
+          | inl e ↦ let z = eqb-true _ _ e in
+              ap (unit 16 i) (wrote-package lock s out z) ∙ package-alike ∙ sym (ap (unit 16 i) (wrote-package lock t out (sym same-answer ∙ z)))
+          | inr e ↦ let z = eqb-false _ _ e in
+              ap (unit 16 i) (wrote-none lock s out z ∙ sym (wrote-none lock t out (λ w. z (same-answer ∙ w))))
+        ]
+
+pub block-law : BlockLaw opened
+block-law = record { same = λ lock i s t out a. same lock i s t a out }

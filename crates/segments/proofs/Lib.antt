@@ -1,0 +1,2 @@
+-- `Vectors`: what a starting vector is, and that it is sixteen bytes.
+pub mod Vectors
