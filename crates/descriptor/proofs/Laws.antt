@@ -77,13 +77,16 @@ pub scheme-numbered : (scheme : ℕ) → T (numbered (stream.schemeRules scheme)
 unfolding stream.schemeRules
 scheme-numbered scheme = tt
 
-one-good : (scheme : ℕ) → OneOf (1 ∷ 2 ∷ []) scheme → stream.badScheme scheme ≡ false
+abbrev pub KnownScheme : ℕ → Type 0
+KnownScheme scheme = OneOf (1 ∷ 2 ∷ []) scheme
+
+one-good : (scheme : ℕ) → KnownScheme scheme → stream.badScheme scheme ≡ false
 unfolding stream.badScheme
 one-good scheme (inl e) = rw e
 one-good scheme (inr (inl e)) = rw e
 one-good scheme (inr (inr e)) = absurd e
 
-known-scheme : (scheme : ℕ) → stream.badScheme scheme ≡ false → OneOf (1 ∷ 2 ∷ []) scheme
+known-scheme : (scheme : ℕ) → stream.badScheme scheme ≡ false → KnownScheme scheme
 unfolding stream.badScheme
 known-scheme scheme h =
     elim (either (eqb scheme 1)) [
@@ -92,7 +95,7 @@ known-scheme scheme h =
     ]
 
 -- one that breaks no rule is one of the two
-pub scheme-known : (scheme : ℕ) → (firstOf (stream.schemeRules scheme) ≡ 0) ↔ OneOf (1 ∷ 2 ∷ []) scheme
+pub scheme-known : (scheme : ℕ) → (firstOf (stream.schemeRules scheme) ≡ 0) ↔ KnownScheme scheme
 unfolding stream.schemeRules stream.badScheme
 scheme-known scheme = (
   λ h. known-scheme scheme (none-broken (stream.schemeRules scheme) tt .0 h .0),
@@ -117,10 +120,10 @@ module _ (s : List ℕ) (scheme : ℕ) where
   unfolding stream.parseRules
   parse-in-turn = in-turn (stream.infoRules s) (stream.schemeRules scheme) (info-numbered s)
 
-  pub parses-both : Parses → Admitted s × OneOf (1 ∷ 2 ∷ []) scheme
+  pub parses-both : Parses → Admitted s × KnownScheme scheme
   parses-both h = let z = after-zero _ _ (sym parse-in-turn ∙ h) in (z .0, scheme-known scheme .0 (z .1))
 
-  pub both-parse : Admitted s → OneOf (1 ∷ 2 ∷ []) scheme → Parses
+  pub both-parse : Admitted s → KnownScheme scheme → Parses
   both-parse h o = parse-in-turn ∙ after-none _ _ h ∙ scheme-known scheme .1 o
 
   pub parsed-answer : stream.parsed s scheme .answer ≡ firstOf (stream.parseRules s scheme)
@@ -147,7 +150,7 @@ pub record WellFormed (d : Descriptor) : Type 0 where
   pub salt : length (d .salt) ≡ 16
   pub verifier : length (d .«encrypted_verifier») ≡ 16
   pub hash : length (d .«encrypted_verifier_hash») ≡ 32
-  pub scheme : OneOf (1 ∷ 2 ∷ []) (d .scheme)
+  pub scheme : KnownScheme (d .scheme)
 
 two-to-four : (n : ℕ) → 2 ≤ n → n ≤ 4 → OneOf (2 ∷ 3 ∷ 4 ∷ []) n
 two-to-four zero g h = absurd (omega arith)

@@ -9,17 +9,17 @@ use borrow.Author.Tests.{ltb-false, le-ltb, ne-eqb, eqb-true, eqb-false}
 use lib.Dec.{T, eqb}
 use lib.ListN.{length}
 use Rattle.octets.specs.Octets.{Bytes}
-use Rattle.answers.specs.Rules.{firstOf, after, numbered, numbers, OneOf}
+use Rattle.answers.specs.Rules.{firstOf, after, numbered, numbers}
 use Rattle.answers.proofs.Laws.{either, in-turn, after-none, after-some, after-zero, numbers-both, by-numbers, both-zero, none-broken}
 use Rattle.aes.specs.Aes.{keyLength, expanded}
 use Rattle.aes.proofs.Keys.{key-lengths}
-use Rattle.descriptor.specs.Info.{parseRules}
+use Rattle.descriptor.specs.Info.{parseRules, parsed}
 use Rattle.descriptor.specs.declared.Descriptor.{Descriptor}
 use Rattle.descriptor.specs.declared.Parsed.{Parsed}
-use Rattle.descriptor.proofs.Laws.{Admitted, Parses, WellFormed, parseList, parse-numbers, parse-numbered, both-parse, parsed-answer, parsed-fields}
+use Rattle.descriptor.proofs.Laws.{Admitted, KnownScheme, Parses, WellFormed, parseList, parse-numbers, parse-numbered, both-parse, parsed-answer, parsed-fields}
 use Rattle.derivation.specs.Key.{keyBytes}
 use Rattle.derivation.proofs.Laws.{length-keyBytes, keyBytes-bytes}
-use Rattle.password.specs.Lock.{Lock, parseOf, descriptorOf}
+use Rattle.password.specs.Lock.{Lock, descriptorOf}
 use Rattle.password.specs.Verifier.{verifierOpening, matches}
 use Rattle.password.specs.Verdict as Verdict
 use Rattle.password.specs.declared.Unlocked.{Unlocked}
@@ -87,6 +87,9 @@ module _ (lock : Lock) where
   abbrev d : Descriptor
   d = descriptorOf lock
 
+  abbrev pub parseOf : Parsed
+  parseOf = parsed (lock .info) (lock .scheme)
+
   -- what is answered before anything is hashed
   abbrev early : ℕ
   early = firstOf (Verdict.earlyRules lock)
@@ -100,7 +103,7 @@ module _ (lock : Lock) where
   early-zero z = after-zero _ _ (sym early-in-turn ∙ z)
 
   -- as it is judged: by the parse
-  pub early-parsed : early ≡ Verdict.earlyOf (parseOf lock) (lock .password)
+  pub early-parsed : early ≡ Verdict.earlyOf parseOf (lock .password)
   unfolding Verdict.earlyOf
   early-parsed = rw (parsed-answer (lock .info) (lock .scheme)) early-in-turn
 
@@ -157,7 +160,7 @@ module _ (lock : Lock) (v : Verdict.judged lock ≡ 0) where
 
 -- ---- what makes a verdict of 0
 
-pub accepted : (lock : Lock) → Admitted (lock .info) → OneOf (1 ∷ 2 ∷ []) (lock .scheme) → length (lock .password) ≤ 255
+pub accepted : (lock : Lock) → Admitted (lock .info) → KnownScheme (lock .scheme) → length (lock .password) ≤ 255
     → Matched (descriptorOf lock) (lock .password) ≡ true → Verdict.judged lock ≡ 0
 accepted lock h o l m =
     let z = early-in-turn lock ∙ after-none _ _ (both-parse (lock .info) (lock .scheme) h o) ∙ text-short (lock .password) .1 l in

@@ -2,9 +2,8 @@
 -- name (request 2026-04). Assumes nothing.
 use mathlib.Core.List.{List}
 use Prim.Native.Nat.{ℕ}
-use Rattle.descriptor.specs.Info.{described, parsed}
+use Rattle.descriptor.specs.Info.{described}
 use Rattle.descriptor.specs.declared.Descriptor.{Descriptor}
-use Rattle.descriptor.specs.declared.Parsed.{Parsed}
 
 pub record Lock : Type 0 where
   pub info : List ℕ
@@ -14,9 +13,6 @@ pub record Lock : Type 0 where
 abbrev pub lockOf : (info password : List ℕ) (scheme : ℕ) → Lock
 lockOf info password scheme = record { info = info; password = password; scheme = scheme }
 
--- its parse, and the descriptor that this gives where no rule is broken
-abbrev pub parseOf : Lock → Parsed
-parseOf lock = parsed (lock .info) (lock .scheme)
-
+-- the descriptor that its parse gives where no rule is broken
 abbrev pub descriptorOf : Lock → Descriptor
 descriptorOf lock = described (lock .info) (lock .scheme)

@@ -67,21 +67,10 @@ module _ (f g : List ℕ → List ℕ) (add : List ℕ → List ℕ → List ℕ
           redo = λ i p x h w. ap f (s .undo (g x) (link start size i p)) ∙ b .undo x w;
         }
 
-  -- ---- where the block before counts
-
-  -- not where a segment begins
+  -- where a segment begins the block before does not count
   pub chained-starts : (i : ℕ) → begins size i ≡ true → Starts (chained f g add start size) i
   unfolding chained link
   chained-starts i e = record { alike = λ p q x. rw e }
-
-  starts-or : (i : ℕ) (b : Bool) (A : Type 0) → begins size i ≡ b → (begins size i ≡ false → A) → Starts (chained f g add start size) i ⊎ A
-  starts-or i true A e h = inl (chained-starts i e)
-  starts-or i false A e h = inr (h e)
-
-  -- so streams need have the same block before block i only where no segment begins with it
-  pub chained-joint : (i : ℕ) (s t : List ℕ) → (begins size i ≡ false → before (chained f g add start size) i s ≡ before (chained f g add start size) i t)
-      → Starts (chained f g add start size) i ⊎ (before (chained f g add start size) i s ≡ before (chained f g add start size) i t)
-  chained-joint i s t = starts-or i (begins size i) _ refl
 
   -- ---- one block, with which segment 0 begins
 

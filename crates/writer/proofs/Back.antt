@@ -2,20 +2,19 @@
 -- Assumes nothing.
 use mathlib.Core.Path.{_≡_, refl, sym, ap, _∙_}
 use mathlib.Core.Logic.{inl, inr}
-use mathlib.Core.List.{List, [], _∷_}
+use mathlib.Core.List.{List}
 use Prim.Native.Nat.{ℕ, _+_, _/_}
 use native.Mathlib.Omega.{arith}
 use lib.Dec.{lit<}
 use lib.ListN.{length, take, drop}
 use Rattle.octets.specs.Octets.{Bytes}
 use Rattle.octets.proofs.Below.{nil-bytes}
-use Rattle.answers.specs.Rules.{OneOf}
 use Rattle.descriptor.specs.Info.{keySize, algIdOf, described}
 use Rattle.descriptor.specs.LaidOut.{Fields}
 use Rattle.descriptor.specs.declared.Descriptor.{Descriptor}
 use Rattle.descriptor.specs.declared.Suite.{Suite}
 use Rattle.descriptor.proofs.Algorithms.{key-row}
-use Rattle.descriptor.proofs.Laws.{Admitted}
+use Rattle.descriptor.proofs.Laws.{Admitted, KnownScheme}
 use Rattle.descriptor.proofs.LaidOut.{Held, Measured, Good, reads, laid-bytes, laid-admitted, laid-described, laid-name, length-laid}
 use Rattle.derivation.proofs.Laws.{keyBytes-bytes}
 use Rattle.password.specs.Lock.{lockOf}
@@ -133,7 +132,7 @@ module _ (bits : ℕ) (password name salt verifier filling : List ℕ) where
         laid-bytes fields n nil-bytes b (f .0) (f .1)
 
     -- the fields open to what was sealed, so the password is accepted, under every scheme
-    pub info-accepted : (scheme : ℕ) → OneOf (1 ∷ 2 ∷ []) scheme → judged (lockOf info password scheme) ≡ 0
+    pub info-accepted : (scheme : ℕ) → KnownScheme scheme → judged (lockOf info password scheme) ≡ 0
     info-accepted scheme o =
         accepted (lockOf info password scheme) info-admitted o (g .fits .typed)
         (ap (λ (d : Descriptor). Matched d password) (info-described scheme)
