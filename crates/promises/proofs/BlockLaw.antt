@@ -1,17 +1,14 @@
 -- Our opener keeps the law of blocks: it is the law of any step, of which each scheme is one. Assumes nothing.
 use mathlib.Core.Path.{_≡_, refl, sym, ap, subst, _∙_}
 use mathlib.Core.Logic.{_⊎_, inl, inr}
-use mathlib.Core.Bool.{Bool, true, false}
 use mathlib.Core.List.{List, []}
-use Prim.Native.Nat.{ℕ, zero, suc, _-_, _*_, _/_, _≤_, _<_}
-use native.Mathlib.Nat.{mul-le-mul-left}
+use Prim.Native.Nat.{ℕ, zero, suc, _-_, _*_, _/_, _≤_}
 use native.Mathlib.Omega.{arith}
 use borrow.Author.Tests.{eqb-true, eqb-false, ltb-true, ltb-false}
 use lib.Dec.{ltb, eqb}
 use lib.ListN.{length, take, drop, length-drop, drop-of-length-le}
 use lib.Seq.{take-at, take-nil}
 use Rattle.answers.specs.Rules.{firstOf}
-use Rattle.answers.specs.Ended.{Left}
 use Rattle.answers.proofs.Laws.{either}
 use Rattle.steps.specs.Steps.{Step, unit, before, openUnits, openAll, Starts, Sized}
 use Rattle.steps.specs.Chained.{begins}
@@ -20,7 +17,7 @@ use Rattle.steps.proofs.Made.{length-open}
 use Rattle.steps.proofs.Alike.{opened-alike}
 use Rattle.descriptor.specs.Info.{described}
 use Rattle.password.specs.Lock.{Lock, descriptorOf}
-use Rattle.lengths.specs.Lengths.{streamSize, lengthRules}
+use Rattle.lengths.specs.Lengths.{streamSize}
 use Rattle.sheet.specs.Frame.{pairOf}
 use Rattle.sheet.specs.Scheme.{stepOf}
 use Rattle.sheet.specs.Sheet.{streamRules, openRules, sheetKey, sheetStep, opening, packageOf, opened}

@@ -1,9 +1,9 @@
 -- A starting vector is sixteen bytes, of the hash of what the code lays. Assumes nothing.
-use mathlib.Core.Path.{_≡_, refl, ap, _∙_}
+use mathlib.Core.Path.{_≡_, refl}
 use mathlib.Core.List.{List, _++_}
 use Prim.Native.Nat.{ℕ}
 use native.Mathlib.Omega.{arith}
-use lib.ListN.{length, take, replicate}
+use lib.ListN.{length, replicate}
 use lib.Seq.{paste, length-take-le}
 use Rattle.octets.specs.Octets.{Bytes, leBytes}
 use Rattle.octets.proofs.Below.{take-below}

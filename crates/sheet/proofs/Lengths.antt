@@ -6,10 +6,9 @@ use mathlib.Core.List.{List, [], _∷_}
 use mathlib.Core.Logic.{_↔_}
 use Prim.Native.Nat.{ℕ, _-_, _*_, _/_, _≤_}
 use native.Mathlib.Omega.{arith}
-use lib.Dec.{T}
 use lib.ListN.{length, drop, length-drop}
 use Rattle.octets.specs.Octets.{Bytes}
-use Rattle.answers.specs.Rules.{firstOf, roomRules, numbered, numbers}
+use Rattle.answers.specs.Rules.{firstOf, roomRules, numbers}
 use Rattle.answers.proofs.Laws.{then, both-zero, numbers-both, room-numbers, roomy}
 use Rattle.lengths.specs.Lengths.{streamSize, packageLimit, sealedSize, lengthRules, sizeRules}
 use Rattle.lengths.proofs.Fillings.{rounded-whole, allowed-rounded}

@@ -1,6 +1,6 @@
 -- Chaining in segments is reversible over any reversible operation on blocks, a segment begins without a look at the block before it, and
 -- each segment is CBC from its vector. Assumes nothing.
-use mathlib.Core.Path.{_≡_, refl, sym, ap, _∙_}
+use mathlib.Core.Path.{_≡_, refl, ap, _∙_}
 use mathlib.Core.Logic.{_⊎_, inl, inr}
 use mathlib.Core.Bool.{Bool, true, false, cond}
 use mathlib.Core.List.{List}

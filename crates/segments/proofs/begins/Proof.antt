@@ -1,5 +1,4 @@
 -- The block's own 256 times its segment, which does not wrap.
-use mathlib.Core.Path.{_≡_}
 use native.Mathlib.Omega.{arith}
 use borrow.Author.Needs.{needs}
 use Rattle.steps.specs.Chained as Chained

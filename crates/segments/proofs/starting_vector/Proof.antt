@@ -1,7 +1,5 @@
 -- The first sixteen bytes of the hash of salt and number.
 use mathlib.Core.Path.{_≡_, ap, _∙_}
-use mathlib.Core.List.{List}
-use Prim.Native.Nat.{ℕ}
 use borrow.Author.Needs.{needs}
 use lib.ListN.{length, take}
 use Rattle.sha1.specs.Sha1.{sha1}
