@@ -1,7 +1,7 @@
 // The steps of a round and the two ciphers (FIPS 197 5.1 and 5.3), under an expanded key and tables that are lent.
 ghost use mathlib.Core.Path.{_≡_};
 ghost use mathlib.Core.List.{[], _∷_, _++_, map};
-ghost use Prim.Native.Nat.{_<_, _≤_};
+ghost use Prim.Native.Nat.{_+_, _*_, _<_, _≤_};
 ghost use lib.ListN.{length};
 ghost use Rattle.fips197.specs.Tables as Tables;
 ghost use Rattle.fips197.specs.Cipher as Cipher;
@@ -158,15 +158,23 @@ pub fn inv_mix_columns(shares: &[u32; 256], s: [u8; 16]) -> [u8; 16]
     )
 }
 
-// AddRoundKey with round key n, eight bytes at once.
-pub fn add_round_key(w: &[u8; 240], n: usize, s: [u8; 16]) -> [u8; 16]
-    requires { ⌜ (n ≤ 14) × (length (now w) ≡ 240) ⌝ }
+// The n-th sixteen bytes of w added to s (5.1.4), eight bytes at once.
+pub fn add_sixteen(w: &[u8], n: usize, s: [u8; 16]) -> [u8; 16]
+    requires { ⌜ 16 * n + 16 ≤ length (now w) ⌝ }
     ensures { λ r. ⌜ r ≡ Cipher.addRoundKey s (Cipher.roundKey (now (w .entry)) n) ⌝ }
 {
     let mut t = [0u8; 16];
     octets::put_le64(&mut t, 0, eight(&s, 0) ^ eight(w, 16 * n));
     octets::put_le64(&mut t, 8, eight(&s, 8) ^ eight(w, 16 * n + 8));
     t
+}
+
+// AddRoundKey with round key n.
+pub fn add_round_key(w: &[u8; 240], n: usize, s: [u8; 16]) -> [u8; 16]
+    requires { ⌜ (n ≤ 14) × (length (now w) ≡ 240) ⌝ }
+    ensures { λ r. ⌜ r ≡ Cipher.addRoundKey s (Cipher.roundKey (now (w .entry)) n) ⌝ }
+{
+    add_sixteen(w, n, s)
 }
 
 // Round n of the cipher, before the last.

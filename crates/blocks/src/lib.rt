@@ -18,7 +18,6 @@ ghost use Rattle.blocks.specs.Blocks.{stepBy, stepFrom};
 ghost use Rattle.blocks.specs.Blocks as Blocks;
 use aes::Expanded;
 use aes::tables;
-use products::packed::eight;
 
 // How the blocks of a stream go together: each by itself, or chained in the segments of a package of so many bytes, which start from
 // vectors of the salt.
@@ -79,14 +78,11 @@ fn part(left: usize) -> usize
     16
 }
 
-// Two blocks, one xored into the other, eight bytes at once.
+// A block with another xored in.
 fn xored(a: [u8; 16], b: [u8; 16]) -> [u8; 16]
     ensures { λ r. ⌜ r ≡ Blocks.xored a b ⌝ }
 {
-    let mut t = [0u8; 16];
-    octets::put_le64(&mut t, 0, eight(&a, 0) ^ eight(&b, 0));
-    octets::put_le64(&mut t, 8, eight(&a, 8) ^ eight(&b, 8));
-    t
+    aes_rounds::add_sixteen(&b, 0, a)
 }
 
 // A plain block at its place with what it is chained to xored in, or as it is where each stands by itself.
