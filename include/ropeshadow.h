@@ -1,5 +1,5 @@
-/* Ropeshadow: the package of a password-locked Office document (Standard encryption of MS-OFFCRYPTO) opened and sealed, and the
- * EncryptionInfo of a new one written.
+/* Ropeshadow: the package of a password-locked Office document (Standard encryption of MS-OFFCRYPTO) opened, whole or one stretch of it,
+ * and sealed, and the EncryptionInfo of a new one written.
  *
  * Link target/lib/libropeshadow.a or target/lib/libropeshadow.so (`make lib`). It keeps no state, takes no memory from the heap, calls
  * nothing but memcpy and memset, and may be called from several threads at once.
@@ -58,7 +58,8 @@ enum {
                                          * StreamSize is above 0 and a multiple of 4,096, that and an extra block of 16 bytes */
     ROPESHADOW_ROOM = 16,               /* `out` is too short */
     ROPESHADOW_MESSAGE_LONG = 18,       /* a message to hash has more than 65,536 bytes */
-    ROPESHADOW_SCHEME = 19              /* the scheme is neither 1 nor 2; tested after 10 and before 11 */
+    ROPESHADOW_SCHEME = 19,             /* the scheme is neither 1 nor 2; tested after 10 and before 11 */
+    ROPESHADOW_RANGE = 20               /* a stretch ends before it begins, or past the package; tested after 15 and before 16 */
 };
 
 /* The schemes: how the blocks of a package are encrypted. Nothing in the file tells which one it was, so the caller does. A package that
@@ -89,6 +90,14 @@ uint64_t ropeshadow_verdict(const uint8_t *info, size_t info_size, const uint16_
  * wrong and the answer is 0 all the same. Answers 0 to 16, 19. */
 uint64_t ropeshadow_open(const uint8_t *info, size_t info_size, const uint16_t *password, size_t units, uint64_t scheme,
                          const uint8_t *stream, size_t stream_size, uint8_t *out, size_t room);
+
+/* One stretch of the package of an EncryptedPackage stream, its bytes `from` up to, not including, `to`, to the front of out, zeros after
+ * them to the end of out: what the same bytes of ropeshadow_open's out are. Places are counted from 0. The size is to - from, which is room
+ * enough; an empty stretch is one too. The stream is lent whole; of its ciphertext only the blocks of 16 bytes that the stretch meets are
+ * decrypted, and under scheme 2 the one before them is read: what the others hold counts for nothing. Each call derives the key anew.
+ * Answers 0 to 16, 19, 20. */
+uint64_t ropeshadow_stretch(const uint8_t *info, size_t info_size, const uint16_t *password, size_t units, uint64_t scheme,
+                            const uint8_t *stream, size_t stream_size, uint64_t from, uint64_t to, uint8_t *out, size_t room);
 
 /* A package as an EncryptedPackage stream under an existing EncryptionInfo to the front of out, zeros after it to the end of out.
  * The last block is filled with the first of the sixteen filling bytes, which should be random. Where package_size is above 0 and a

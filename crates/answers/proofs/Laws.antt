@@ -1,7 +1,7 @@
 -- A rule is broken or holds, so the answer is that of the first that is broken, by induction over the list. Assumes nothing.
 use mathlib.Core.Path.{_≡_, refl, sym, ap, subst, _∙_}
 use mathlib.Core.Logic.{_⊎_, inl, inr, _↔_}
-use mathlib.Core.Bool.{Bool, true, false, cond, _&&_}
+use mathlib.Core.Bool.{Bool, true, false, cond, _&&_, _||_, true≢false}
 use mathlib.Core.List.{List, [], _∷_, _++_}
 use Prim.Native.Nat.{ℕ, zero, suc, _+_, _≤_, _<_}
 use native.Mathlib.Omega.{arith}
@@ -22,6 +22,11 @@ both false b h = absurd h
 pub pass : (a b : Bool) → T a → T b → T (a && b)
 pass true b h k = k
 pass false b h k = absurd h
+
+-- where either would pass and none does
+pub neither : {a b : Bool} → (a || b) ≡ false → (a ≡ false) × (b ≡ false)
+neither {a = true} h = absurd (true≢false h)
+neither {a = false} h = (refl, h)
 
 -- ---- one answer after another
 

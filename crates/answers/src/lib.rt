@@ -51,6 +51,8 @@ pub const FILES: u16 = 17;
 pub const MESSAGE_LONG: u16 = 18;
 // The scheme is neither ECB nor chained.
 pub const SCHEME: u16 = 19;
+// A stretch ends before it begins, or past the package.
+pub const RANGE: u16 = 20;
 
 // The number of a rule that is broken, else what the rules after it give.
 pub fn first(broken: bool, number: u16, rest: u16) -> u16

@@ -5,13 +5,13 @@ use mathlib.Core.Bool.{Bool, true, false, cond}
 use mathlib.Core.List.{List}
 use Prim.Native.Nat.{ℕ, _≤_, _<_}
 use native.Mathlib.Omega.{arith}
-use lib.ListN.{length, take}
+use lib.ListN.{length, take, replicate}
 use lib.Seq.{paste, take-all}
 use Rattle.octets.specs.Octets.{Bytes}
 use Rattle.octets.proofs.Parts.{paste-whole}
 use Rattle.fips197.specs.Cipher.{roundKey, cipher, invCipher}
 use Rattle.fips197.specs.Expansion.{roundsFor}
-use Rattle.fips197.proofs.States.{length-addRoundKey, addRoundKey-bytes, unadd}
+use Rattle.fips197.proofs.States.{length-addRoundKey, addRoundKey-bytes, unadd, told-by-sum}
 use Rattle.fips197.proofs.Undo.{length-cipher, length-invCipher}
 use Rattle.aes.specs.Aes.{keyLength, encryption, decryption, expanded}
 use Rattle.aes.specs.declared.Expanded.{Expanded}
@@ -21,7 +21,7 @@ use Rattle.steps.specs.Ecb.{ecb, Blocks}
 use Rattle.steps.specs.Chained.{begins, link, chained, Sum}
 use Rattle.steps.proofs.Made.{resumed-none, resumed-sized}
 use Rattle.steps.proofs.Ecb.{ecb-starts, ecb-sized, ecb-reverses}
-use Rattle.steps.proofs.Chained.{chained-starts, chained-sized, chained-reverses}
+use Rattle.steps.proofs.Chained.{chained-starts, chained-tells, chained-sized, chained-reverses}
 use Rattle.segments.specs.Start.{startOf}
 use Rattle.segments.proofs.Vectors.{start-bytes}
 use Rattle.blocks.specs.Blocks.{ecbUnder, chainedUnder, xored, withLink, modeStep, stepBy, stepFrom, streamStart}
@@ -56,12 +56,29 @@ module _ (m : Mode) (f g : List ℕ → List ℕ) where
         back = λ i p x. length-chosen (m .chained) (g x) (link (startOf (m .salt)) (m .size) i p) ∙ b x;
       }
 
--- from any place on both ways give sixteen bytes
-pub by-sized : (p : Place) (m : Mode) (w : List ℕ) (rounds : ℕ) → Sized (stepFrom p m w rounds)
-unfolding stepBy
-by-sized p m w rounds =
-    resumed-sized _ (mode-sized m (cipher (roundKey w) rounds) (invCipher (roundKey w) rounds) (length-cipher (roundKey w) rounds) (length-invCipher (roundKey w) rounds))
-    (p .number) (p .before)
+-- the step that the code takes: blocks of sixteen bytes, before the first of which stand zeros
+module _ (m : Mode) (w : List ℕ) (rounds : ℕ) where
+  pub by-width : stepBy m w rounds .width ≡ 16
+  unfolding stepBy modeStep
+  by-width = refl
+
+  pub by-first : stepBy m w rounds .first ≡ replicate 16 0
+  unfolding stepBy modeStep
+  by-first = refl
+
+  pub by-sized : Sized (stepBy m w rounds)
+  unfolding stepBy
+  by-sized =
+      mode-sized m (cipher (roundKey w) rounds) (invCipher (roundKey w) rounds) (length-cipher (roundKey w) rounds) (length-invCipher (roundKey w) rounds)
+
+  -- from any place on too
+  pub from-sized : (p : Place) → Sized (stepFrom p m w rounds)
+  from-sized p = resumed-sized (stepBy m w rounds) by-sized (p .number) (p .before)
+
+  -- and taken up at the start it is the same
+  pub from-start : stepFrom streamStart m w rounds ≡ stepBy m w rounds
+  unfolding stepBy modeStep
+  from-start = resumed-none (stepBy m w rounds)
 
 -- ---- under a key
 
@@ -88,6 +105,12 @@ module _ (k : List ℕ) where
     pub chained-under-starts : (i : ℕ) → begins size i ≡ true → Starts (chainedUnder k salt size) i
     unfolding chainedUnder
     chained-under-starts = chained-starts (encryption k) (decryption k) xored (startOf salt) size
+
+    -- and elsewhere tells it
+    pub chained-under-tells : (i : ℕ) → begins size i ≡ false → (p q x : List ℕ) → length p ≡ 16 → length q ≡ 16
+        → chainedUnder k salt size .back i p x ≡ chainedUnder k salt size .back i q x → p ≡ q
+    unfolding chainedUnder
+    chained-under-tells = chained-tells (encryption k) (decryption k) xored (startOf salt) size told-by-sum (length-decryption k)
 
     pub chained-under-sized : Sized (chainedUnder k salt size)
     unfolding chainedUnder
@@ -138,12 +161,11 @@ module _ (k : List ℕ) where
 
       -- a stream taken up at its start
       started : (e : Expanded) (p : Place) → e ≡ expanded k → p ≡ streamStart → stepFrom p m (e .bytes) (e .rounds) ≡ modeStep m (encryption k) (decryption k)
-      unfolding modeStep
       started e p q s =
           ap (λ (x : Place). stepFrom x m (e .bytes) (e .rounds)) s
-          ∙ ap (λ (x : Expanded). stepFrom streamStart m (x .bytes) (x .rounds)) q
-          ∙ ap (resumed 0 (streamStart .before)) by-expanded
-          ∙ resumed-none (modeStep m (encryption k) (decryption k))
+          ∙ from-start m (e .bytes) (e .rounds)
+          ∙ ap (λ (x : Expanded). stepBy m (x .bytes) (x .rounds)) q
+          ∙ by-expanded
 
       pub ecb-started : (e : Expanded) (p : Place) → m .chained ≡ false → e ≡ expanded k → p ≡ streamStart → stepFrom p m (e .bytes) (e .rounds) ≡ ecbUnder k
       unfolding ecbUnder

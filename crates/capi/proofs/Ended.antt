@@ -8,9 +8,10 @@ use Rattle.answers.specs.Ended as Ended
 use Rattle.answers.specs.declared.Reply.{Reply}
 use Rattle.password.specs.Lock.{Lock}
 use Rattle.sheet.specs.Sheet as Sheet
+use Rattle.stretch.specs.Stretch as Stretch
 use Rattle.writer.specs.Written as Written
 use Rattle.crossing.specs.Crossing.{replyWord, sixteen, chosen}
-use Rattle.capi.specs.Capi.{Outcome, outcome, outcomeBy, sheetOutcome, openOutcome, sealOutcome}
+use Rattle.capi.specs.Capi.{Outcome, outcome, outcomeBy, sheetOutcome, openOutcome, stretchOutcome, sealOutcome}
 
 -- the two arms of a function that writes a value on answer 0 only
 pub answered : (answer w : ℕ) (value old out : List ℕ) → w ≡ replyWord answer 0
@@ -41,6 +42,11 @@ module _ (lock : Lock) (w : ℕ) (r : Reply) (old out : List ℕ) (e : w ≡ rep
       → outcome w out ≡ openOutcome lock stream old
   unfolding openOutcome Sheet.opened
   open-crossed stream l = ap (λ (n : ℕ). outcome n out) e ∙ ap crossed l ∙ sheet-ended _ _ _ old
+
+  pub stretch-crossed : (stream : List ℕ) (from to : ℕ) → Ended.left r out ≡ Stretch.stretched lock stream from to old
+      → outcome w out ≡ stretchOutcome lock stream from to old
+  unfolding stretchOutcome Stretch.stretched
+  stretch-crossed stream from to l = ap (λ (n : ℕ). outcome n out) e ∙ ap crossed l ∙ sheet-ended _ _ _ old
 
   pub seal-crossed : («package» filling : List ℕ) (low high extra : ℕ) → filling ≡ sixteen low high
       → Ended.left r out ≡ Sheet.sealed lock «package» filling (chosen extra) old → outcome w out ≡ sealOutcome lock «package» low high extra old

@@ -13,6 +13,8 @@ use Rattle.lengths.specs.Lengths as Lengths
 use Rattle.lengths.proofs.Fillings.{filling-most}
 use Rattle.sheet.specs.Sheet as Sheet
 use Rattle.sheet.proofs.Laws.{open-holds, seal-holds}
+use Rattle.stretch.specs.Stretch as Stretch
+use Rattle.stretch.proofs.Laws.{stretch-holds}
 use Rattle.writer.specs.Written as Written
 use Rattle.writer.proofs.Laws.{writable}
 
@@ -27,6 +29,11 @@ module _ (lock : Lock) where
   open-size stream out =
       ended-size _ _ _ out Lengths.packageLimit (λ h. open-holds lock stream out h .1 .fits .limited)
 
+  stretch-size : (stream : List ℕ) (from to : ℕ) (out : List ℕ) → Stretch.stretched lock stream from to out .reply .size ≤ Lengths.packageLimit
+  unfolding Stretch.stretched
+  stretch-size stream from to out =
+      ended-size _ _ _ out Lengths.packageLimit (λ h. let k = stretch-holds lock stream from to out h .1 in omega (arith, k .within, k .fits .limited))
+
   seal-size : («package» filling : List ℕ) (extra : Bool) (out : List ℕ) → Sheet.sealed lock «package» filling extra out .reply .size ≤ 268435480
   unfolding Sheet.sealed
   seal-size «package» filling extra out =
@@ -38,6 +45,10 @@ module _ (lock : Lock) where
     pub open-held : (stream : List ℕ) → Ended.left r out ≡ Sheet.opened lock stream old → r .size < 2 ^ 48
     unfolding Lengths.packageLimit
     open-held stream e = omega (arith, ap (λ (l : Ended.Left). l .reply .size) e, open-size stream old)
+
+    pub stretch-held : (stream : List ℕ) (from to : ℕ) → Ended.left r out ≡ Stretch.stretched lock stream from to old → r .size < 2 ^ 48
+    unfolding Lengths.packageLimit
+    stretch-held stream from to e = omega (arith, ap (λ (l : Ended.Left). l .reply .size) e, stretch-size stream from to old)
 
     pub seal-held : («package» filling : List ℕ) (extra : Bool) → Ended.left r out ≡ Sheet.sealed lock «package» filling extra old → r .size < 2 ^ 48
     seal-held «package» filling extra e = omega (arith, ap (λ (l : Ended.Left). l .reply .size) e, seal-size «package» filling extra old)

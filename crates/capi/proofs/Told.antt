@@ -16,6 +16,8 @@ use Rattle.password.specs.Verdict as Verdict
 use Rattle.password.proofs.Laws.{verdict-numbers}
 use Rattle.sheet.specs.Sheet as Sheet
 use Rattle.sheet.proofs.Laws.{open-numbers, seal-numbers}
+use Rattle.stretch.specs.Stretch as Stretch
+use Rattle.stretch.proofs.Laws.{stretch-numbers}
 use Rattle.writer.specs.Written as Written
 use Rattle.writer.proofs.Laws.{write-numbers}
 use Rattle.crossing.specs.Crossing.{told, sixteen, twelve, bitCount, chosen}
@@ -69,6 +71,12 @@ module _ (lock : Lock) where
   pub open-told : (stream out : List ℕ) → Capi.readBack (Capi.openOutcome lock stream out) ≡ Sheet.opened lock stream out
   unfolding Capi.openOutcome Sheet.opened
   open-told stream out = sheet-told _ _ _ out (small (Sheet.openRules lock stream (length out)) (rw (open-numbers lock stream out) (omega arith)))
+
+  pub stretch-told : (stream : List ℕ) (from to : ℕ) (out : List ℕ)
+      → Capi.readBack (Capi.stretchOutcome lock stream from to out) ≡ Stretch.stretched lock stream from to out
+  unfolding Capi.stretchOutcome Stretch.stretched
+  stretch-told stream from to out =
+      sheet-told _ _ _ out (small (Stretch.stretchRules lock stream from to (length out)) (rw (stretch-numbers lock stream from to out) (omega arith)))
 
   pub seal-told : («package» : List ℕ) (low high extra : ℕ) (out : List ℕ)
       → Capi.readBack (Capi.sealOutcome lock «package» low high extra out)

@@ -10,6 +10,7 @@ use Rattle.descriptor.specs.Info as Info
 use Rattle.password.specs.Lock.{Lock}
 use Rattle.password.specs.Verdict as Verdict
 use Rattle.sheet.specs.Sheet as Sheet
+use Rattle.stretch.specs.Stretch as Stretch
 use Rattle.writer.specs.Written as Written
 use Rattle.crossing.specs.Crossing.{replyWord, told, sixteen, twelve, bitCount, chosen, descriptorBytes}
 
@@ -63,6 +64,10 @@ verdictWord lock = replyWord (Verdict.judged lock) 0
 -- `ropeshadow_open`
 unfoldable pub openOutcome : (lock : Lock) (stream out : List ℕ) → Outcome
 openOutcome lock stream out = sheetOutcome (Sheet.opened lock stream out) out
+
+-- `ropeshadow_stretch`
+unfoldable pub stretchOutcome : (lock : Lock) (stream : List ℕ) (from to : ℕ) (out : List ℕ) → Outcome
+stretchOutcome lock stream from to out = sheetOutcome (Stretch.stretched lock stream from to out) out
 
 -- `ropeshadow_seal`, the filling in two numbers, the choice of an extra block in one
 unfoldable pub sealOutcome : (lock : Lock) («package» : List ℕ) (low high extra : ℕ) (out : List ℕ) → Outcome

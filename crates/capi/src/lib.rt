@@ -3,7 +3,7 @@
 //     uint64_t word = ropeshadow_open(info, info_size, password, units, scheme, stream, stream_size, out, room);
 //     if (word % 65536 == 0) { .. the first word / 65536 bytes of out .. }
 //
-// Each returns one number, 01's answer + 65,536 x the size; the size is 0 but for a sheet opened or sealed and a descriptor written.
+// Each returns one number, 01's answer + 65,536 x the size; the size is 0 but for a sheet or a stretch of it opened, a sheet sealed and a descriptor written.
 // With an answer other than 0 the size is 0 and `out` is as it was (specs/Capi.antt).
 //
 // To C a lent slice is two parameters, where it starts and how many elements it has: `&[u8]` is `const uint8_t *, size_t`, `&[u16]` is
@@ -90,6 +90,23 @@ pub extern "C" fn ropeshadow_open(
     ensures { λ r. ⌜ outcome r (now (out .exit)) ≡ Capi.openOutcome (lockOf (now (info .entry)) (now (password .entry)) scheme) (now (stream .entry)) (now (out .entry)) ⌝ }
 {
     let r = sheet::open(info, password, scheme, stream, out);
+    crossing::word(r.answer, r.size)
+}
+
+// The bytes of a package from one place up to, not including, another, opened into out.
+#[no_mangle]
+pub extern "C" fn ropeshadow_stretch(
+    info: &[u8],
+    password: &[u16],
+    scheme: u64,
+    stream: &[u8],
+    from: u64,
+    to: u64,
+    out: &mut [u8],
+) -> u64
+    ensures { λ r. ⌜ outcome r (now (out .exit)) ≡ Capi.stretchOutcome (lockOf (now (info .entry)) (now (password .entry)) scheme) (now (stream .entry)) from to (now (out .entry)) ⌝ }
+{
+    let r = stretch::open(info, password, scheme, stream, from, to, out);
     crossing::word(r.answer, r.size)
 }
 

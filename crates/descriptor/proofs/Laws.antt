@@ -1,6 +1,6 @@
 -- A stream that breaks no rule keeps each of them; here they are as facts on its numbers. Assumes nothing.
 use mathlib.Core.Path.{_≡_, refl, sym, _∙_}
-use mathlib.Core.Bool.{Bool, true, false, _||_, true≢false}
+use mathlib.Core.Bool.{true, false}
 use mathlib.Core.List.{List, [], _∷_, _++_}
 use mathlib.Core.Logic.{_↔_, inl, inr}
 use Prim.Native.Nat.{ℕ, zero, suc, _+_, _-_, _%_, _≤_}
@@ -10,14 +10,10 @@ use lib.Dec.{T, ltb, eqb}
 use lib.ListN.{length}
 use Rattle.octets.proofs.Parts.{length-part}
 use Rattle.answers.specs.Rules.{firstOf, after, numbered, numbers, testOf, OneOf}
-use Rattle.answers.proofs.Laws.{either, after-none, after-zero, none-broken, rule-holds, in-turn, numbers-both, by-numbers}
+use Rattle.answers.proofs.Laws.{either, neither, after-none, after-zero, none-broken, rule-holds, in-turn, numbers-both, by-numbers}
 use Rattle.descriptor.specs.Info as stream
 use Rattle.descriptor.specs.declared.Descriptor.{Descriptor}
 use Rattle.descriptor.proofs.Algorithms.{suite-known, in-bytes}
-
-or-false : {a b : Bool} → (a || b) ≡ false → (a ≡ false) × (b ≡ false)
-or-false {a = true} h = absurd (true≢false h)
-or-false {a = false} h = (refl, h)
 
 -- the stream breaks no rule
 abbrev pub Admitted : List ℕ → Type 0
@@ -45,11 +41,11 @@ keeps n s h = rule-holds n (stream.infoRules s) (info-numbered s) h
 module _ (s : List ℕ) (h : Admitted s) where
   pub header-low : 32 ≤ stream.headerSize s
   unfolding stream.infoRules stream.numbersOf stream.badHeaderSize
-  header-low = ltb-false _ _ (or-false (keeps 3 s h) .0)
+  header-low = ltb-false _ _ (neither (keeps 3 s h) .0)
 
   pub header-high : stream.headerSize s ≤ 4096
   unfolding stream.infoRules stream.numbersOf stream.badHeaderSize
-  header-high = ltb-false _ _ (or-false {a = ltb (stream.headerSize s) 32} (keeps 3 s h) .1)
+  header-high = ltb-false _ _ (neither {a = ltb (stream.headerSize s) 32} (keeps 3 s h) .1)
 
   pub info-length : length s ≡ stream.headerSize s + 84
   unfolding stream.infoRules stream.numbersOf
@@ -57,7 +53,7 @@ module _ (s : List ℕ) (h : Admitted s) where
 
   pub extra-fits : 32 + stream.sizeExtra s ≤ stream.headerSize s
   unfolding stream.infoRules stream.numbersOf stream.badName
-  extra-fits = ltb-false _ _ (or-false (keeps 5 s h) .0)
+  extra-fits = ltb-false _ _ (neither (keeps 5 s h) .0)
 
   pub key-size : stream.keySize s ≡ stream.suiteOf (stream.algId s) .bits .0
   unfolding stream.infoRules stream.numbersOf
@@ -165,8 +161,8 @@ unfolding stream.described stream.infoRules stream.numbersOf stream.badVersion s
 well-formed s scheme k =
     let h : Admitted s = parses-both s scheme k .0 in
     let l : length s ≡ stream.headerSize s + 84 = info-length s h in
-    let v = or-false (keeps 2 s h) in
-    let m = or-false (v .1) in
+    let v = neither (keeps 2 s h) in
+    let m = neither (v .1) in
     let low : 32 ≤ stream.headerSize s = header-low s h in
     let high : stream.headerSize s ≤ 4096 = header-high s h in
     record {
@@ -174,7 +170,7 @@ well-formed s scheme k =
       major = two-to-four (stream.major s) (ltb-false _ _ (m .0)) (ltb-false _ _ (m .1));
       key = rw (key-size s h) (in-bytes _ (suite-known (stream.algId s) (alg-known s h) .bits));
       place = refl;
-      name-even = eqb-true _ _ (not-false _ (or-false {a = ltb (stream.headerSize s) (32 + stream.sizeExtra s)} (keeps 5 s h) .1));
+      name-even = eqb-true _ _ (not-false _ (neither {a = ltb (stream.headerSize s) (32 + stream.sizeExtra s)} (keeps 5 s h) .1));
       name-fits = omega arith;
       salt = length-part 16 (16 + stream.headerSize s) s (omega arith);
       verifier = length-part 16 (32 + stream.headerSize s) s (omega arith);

@@ -1,14 +1,15 @@
 -- What each step of a round keeps and what takes it back. Lengths and undoing hold of any numbers; bytes stay bytes.
 -- Assumes nothing.
-use mathlib.Core.Path.{_≡_, refl, ap, subst}
+use mathlib.Core.Path.{_≡_, refl, sym, ap, subst, _∙_}
 use mathlib.Core.List.{List, [], _∷_, map}
 use Prim.Native.Nat.{ℕ, zero, suc, _+_, _*_, _%_, _<_}
+use native.Mathlib.Omega.{arith}
 use lib.ListN.{length, getD, drop, length-map}
 use Rattle.octets.specs.Octets.{Bytes}
 use Rattle.octets.proofs.Below.{nil-bytes, cons-below, tail-below, take-below, drop-below}
 use Rattle.fips197.specs.Tables.{look, sbox, invSbox}
 use Rattle.fips197.specs.Cipher.{subBytes, invSubBytes, tabulate, shift, shiftRows, invShiftRows, addRoundKey, roundKey}
-use Rattle.fips197.proofs.Sums.{back, xor-byte}
+use Rattle.fips197.proofs.Sums.{comm, back, xor-byte}
 use Rattle.fips197.proofs.Entries.{unsub, resub, sub-byte, invSub-byte}
 
 -- ---- SubBytes
@@ -100,6 +101,18 @@ unfolding addRoundKey
 unadd [] k = refl
 unadd (x ∷ s) [] = refl
 unadd (x ∷ s) (y ∷ k) = λ i. back x y i ∷ unadd s k i
+
+add-comm : (s k : List ℕ) → length s ≡ length k → addRoundKey s k ≡ addRoundKey k s
+unfolding addRoundKey
+add-comm [] [] h = refl
+add-comm [] (y ∷ k) h = absurd (omega (arith, h))
+add-comm (x ∷ s) [] h = absurd (omega (arith, h))
+add-comm (x ∷ s) (y ∷ k) h = λ i. comm x y i ∷ add-comm s k (omega (arith, h)) i
+
+-- a sum and one of the two tell the other
+pub told-by-sum : (s k l : List ℕ) → length k ≡ length s → length l ≡ length s → addRoundKey s k ≡ addRoundKey s l → k ≡ l
+told-by-sum s k l hk hl e =
+    sym (unadd k s) ∙ ap (λ (x : List ℕ). addRoundKey x s) (add-comm k s hk ∙ e ∙ sym (add-comm l s hl)) ∙ unadd l s
 
 pub addRoundKey-bytes : (s k : List ℕ) → Bytes s → Bytes k → Bytes (addRoundKey s k)
 unfolding addRoundKey

@@ -1,5 +1,5 @@
 -- The ways out of opening and sealing, a law for each: a refusal by the first broken rule, and the content. Assumes nothing.
-use mathlib.Core.Path.{_≡_, sym, ap, _∙_}
+use mathlib.Core.Path.{_≡_, refl, sym, ap, _∙_}
 use mathlib.Core.Bool.{Bool}
 use mathlib.Core.List.{List, [], _∷_, _++_}
 use Prim.Native.Nat.{ℕ, _+_, _-_, _≤_}
@@ -14,13 +14,14 @@ use Rattle.answers.specs.Rules.{firstOf, after, numbered, numbers}
 use Rattle.answers.specs.Ended.{left, reply}
 use Rattle.answers.proofs.Laws.{in-turn, after-none, both-zero, numbers-both, by-numbers}
 use Rattle.answers.proofs.Endings.{ended-answer, ended-refused, ended-done}
+use Rattle.steps.specs.Steps.{openAll}
 use Rattle.password.specs.Lock.{Lock}
 use Rattle.password.specs.Verdict.{judged, verdictRules}
 use Rattle.password.proofs.Laws.{verdict-numbered, verdictList, verdict-numbers}
 use Rattle.lengths.specs.Lengths.{streamSize, packageLimit, fillingFor, rounded, allowed, sealedSize}
 use Rattle.lengths.proofs.Fillings.{filling-most, rounded-whole, filling-allowed, allowed-rounded}
 use Rattle.sheet.specs.Frame.{Pair, pair, streamOf, pairOf, Lawful}
-use Rattle.sheet.specs.Sheet.{lengths, streamRules, packageRules, openRules, sealRules, sealing, opening, packageOf, filledWith, sealingOf, opened, sealed}
+use Rattle.sheet.specs.Sheet.{lengths, streamRules, packageRules, openRules, sealRules, sheetStep, sealing, opening, packageOf, filledWith, sealingOf, opened, sealed}
 use Rattle.sheet.proofs.Lengths.{Openable, openable, openable-blocks, stream-numbers, Sealable, sealable, package-numbers}
 use Rattle.sheet.proofs.Keyed.{length-sealed, length-opened}
 
@@ -128,6 +129,11 @@ module _ (lock : Lock) where
     seal-by-length other e = rw e
 
   -- ---- how long the content is
+
+  -- the package is the front of what is opened
+  pub package-front : (s : List ℕ) → packageOf lock s ≡ take (streamSize s) (openAll (sheetStep lock (streamSize s)) (drop 8 s))
+  unfolding packageOf pairOf opening
+  package-front s = refl
 
   pub package-held : (s : List ℕ) (room : ℕ) → Openable s room → streamSize s ≤ length (opening lock (streamSize s) (drop 8 s))
   package-held s room k = omega (arith, length-opened lock (streamSize s) (drop 8 s), openable-blocks s room k)

@@ -3,9 +3,9 @@
 use mathlib.Core.Path.{_≡_, refl, ap, _∙_}
 use mathlib.Core.Bool.{Bool, true, false, cond}
 use mathlib.Core.List.{List}
-use mathlib.Core.Logic.{inl, inr}
+use mathlib.Core.Logic.{_⊎_, inl, inr}
 use Prim.Native.Nat.{ℕ}
-use borrow.Author.Tests.{eqb-true}
+use borrow.Author.Tests.{eqb-true, eqb-false, eq-eqb}
 use lib.Dec.{eqb}
 use lib.ListN.{length}
 use Rattle.octets.specs.Octets.{Bytes}
@@ -17,7 +17,7 @@ use Rattle.steps.specs.Chained.{begins}
 use Rattle.blocks.specs.Blocks.{ecbUnder, chainedUnder, stepFrom, streamStart}
 use Rattle.blocks.specs.declared.Mode.{Mode}
 use Rattle.blocks.specs.declared.Place.{Place}
-use Rattle.blocks.proofs.Aes.{under-width, under-starts, under-sized, under-reverses, chained-width, chained-under-starts, chained-under-sized, chained-under-reverses, ecb-started, chained-started}
+use Rattle.blocks.proofs.Aes.{under-width, under-starts, under-sized, under-reverses, chained-width, chained-under-starts, chained-under-tells, chained-under-sized, chained-under-reverses, ecb-started, chained-started}
 use Rattle.descriptor.specs.declared.Descriptor.{Descriptor}
 use Rattle.sheet.specs.Scheme.{stepOf, modeOf}
 
@@ -43,6 +43,22 @@ module _ (d : Descriptor) (key : List ℕ) (size : ℕ) where
   -- every block starts but, under scheme 2, those that no segment begins with
   pub step-starts : (i : ℕ) → (d .scheme ≡ 2 → begins size i ≡ true) → Starts (stepOf d key size) i
   step-starts i h = by-scheme (λ (s : Step). Starts s i) (λ e. chained-under-starts key (d .salt) size i (h e)) (under-starts key i)
+
+  pub step-cut : (i : ℕ) → Starts (stepOf d key size) i ⊎ ((d .scheme ≡ 2) × (begins size i ≡ false))
+  step-cut i =
+      elim (either (eqb (d .scheme) 2)) [
+        | inl e ↦ elim (either (begins size i)) [
+          | inl b ↦ inl (step-starts i (λ q. b))
+          | inr b ↦ inr (eqb-true _ _ e, b)
+        ]
+        | inr e ↦ inl (step-starts i (λ q. absurd (eqb-false (d .scheme) 2 e q)))
+      ]
+
+  -- and one of these, with its own cipher block, tells the one before
+  pub step-tells : (i : ℕ) → d .scheme ≡ 2 → begins size i ≡ false → (p q x : List ℕ) → length p ≡ 16 → length q ≡ 16
+      → stepOf d key size .back i p x ≡ stepOf d key size .back i q x → p ≡ q
+  unfolding stepOf
+  step-tells i e b p q x hp hq = rw (eq-eqb (d .scheme) 2 e) (chained-under-tells key (d .salt) size i b p q x hp hq)
 
   -- ---- as the code takes it
 

@@ -42,7 +42,7 @@ fn package_answer(extra: bool, size: usize, room: usize) -> u16
 }
 
 // How the blocks of a package of so many bytes go together under a descriptor.
-fn mode_of(fields: Descriptor, size: usize) -> Mode
+pub fn mode_of(fields: Descriptor, size: usize) -> Mode
     ensures { λ r. ⌜ r ≡ modeOf fields size ⌝ }
 {
     let salt = fields.salt;

@@ -1,15 +1,28 @@
 -- A unit is opened by a look at itself and the one before it, so units that agree open alike where the first of them has the same unit
 -- before it, or starts. Assumes nothing.
-use mathlib.Core.Path.{_≡_, sym, ap, ap₂, _∙_}
+use mathlib.Core.Path.{_≡_, refl, sym, ap, ap₂, subst⁻¹, _∙_}
 use mathlib.Core.Logic.{_⊎_, inl, inr}
 use mathlib.Core.List.{List}
 use Prim.Native.Nat.{ℕ, zero, suc, _+_, _-_, _*_, _/_, _≤_, _<_}
-use native.Mathlib.Nat.{add-zero, add-suc, mul-div-le, lt-mul-div-succ, le-div-iff-mul-le, div-lt-iff-lt-mul, mul-le-mul-left}
+use native.Mathlib.Nat.{eq-zero-or-pos, add-zero, add-suc, mul-add-div, div-eq-of-lt, mul-div-le, lt-mul-div-succ, le-div-iff-mul-le, div-lt-iff-lt-mul, mul-le-mul-left}
 use native.Mathlib.Omega.{arith}
-use lib.ListN.{take, drop}
+use lib.ListN.{length, getD, take, drop, length-take, length-drop}
+use lib.Seq.{getD-take, getD-drop, ext-getD}
 use Rattle.steps.specs.Steps.{unit, Step, before, openUnits, Starts, Sized}
+use Rattle.steps.specs.Needed.{Meets, Needed, AgreeAt}
 use Rattle.steps.proofs.Units.{part-units, unit-drop, take-grown, grown-alike}
 use Rattle.steps.proofs.Made.{unit-open}
+
+-- units that agree byte by byte
+unit-agrees : (u k : ℕ) (s t : List ℕ) → 0 < u → length s ≡ length t → ((j : ℕ) → j / u ≡ k → getD s j 0 ≡ getD t j 0) → unit u k s ≡ unit u k t
+unfolding unit
+unit-agrees u k s t some long h =
+    let o : ℕ = u * k in
+    let same : length (take u (drop o s)) ≡ length (take u (drop o t)) = simp (length-take, length-drop) (rw long) in
+    ext-getD 0 (take u (drop o s)) (take u (drop o t)) same
+    (λ i l. let b : i < u = omega (arith, l, length-take u (drop o s)) in
+    let e : (o + i) / u ≡ k = mul-add-div some k i ∙ ap (λ (n : ℕ). k + n) (div-eq-of-lt b) ∙ add-zero k in
+    getD-take u (drop o s) i 0 b ∙ getD-drop o s i 0 ∙ h (o + i) e ∙ sym (getD-take u (drop o t) i 0 b ∙ getD-drop o t i 0))
 
 module _ (step : Step) (s t : List ℕ) where
   abbrev u : ℕ
@@ -66,3 +79,24 @@ module _ (step : Step) (s t : List ℕ) where
         part-units u i m a b (openUnits step n s) first (omega arith) (rw all (omega arith))
         ∙ ap (λ (x : List ℕ). take (b - a) (drop (a - u * i) x)) same
         ∙ sym (part-units u i m a b (openUnits step n t) first (omega arith) (rw all (omega arith)))
+
+    -- the same by bytes: those that count agree, and every unit is linked to the one before it or starts
+    module _ (linked : ℕ → Type 0) (each : (i : ℕ) → Starts step i ⊎ linked i) (long : length s ≡ length t) (n a b : ℕ)
+        (e : AgreeAt (Needed u linked a b) s t) where
+      -- the unit before the first
+      led : a < b → (i : ℕ) → i ≡ a / u → linked (a / u) → before step i s ≡ before step i t
+      unfolding before
+      led h zero q l = refl
+      led h (suc i) q l = unit-agrees u i s t (z .some) long (λ j k. e j (inr ((h, ap suc k ∙ q), l)))
+
+      joint : a < b → Starts step (a / u) ⊎ linked (a / u) → Starts step (a / u) ⊎ (before step (a / u) s ≡ before step (a / u) t)
+      joint h (inl k) = inl k
+      joint h (inr l) = inr (led h (a / u) refl l)
+
+      pub stretch-agrees : b ≤ u * n → take (b - a) (drop a (openUnits step n s)) ≡ take (b - a) (drop a (openUnits step n t))
+      stretch-agrees hb =
+          elim (eq-zero-or-pos (b - a)) [
+            | inl none ↦ rw none
+            | inr l ↦ let h : a < b = omega (arith, l) in
+                stretch-meets n a b h hb (λ k p q. unit-agrees u k s t (z .some) long (λ j g. e j (inl (subst⁻¹ (Meets u a b) g (h, p, q))))) (joint h (each (a / u)))
+          ]

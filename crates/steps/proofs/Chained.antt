@@ -1,6 +1,6 @@
 -- Chaining in segments is reversible over any reversible operation on blocks, a segment begins without a look at the block before it, and
 -- each segment is CBC from its vector. Assumes nothing.
-use mathlib.Core.Path.{_≡_, refl, ap, _∙_}
+use mathlib.Core.Path.{_≡_, refl, sym, ap, _∙_}
 use mathlib.Core.Logic.{_⊎_, inl, inr}
 use mathlib.Core.Bool.{Bool, true, false, cond}
 use mathlib.Core.List.{List}
@@ -71,6 +71,13 @@ module _ (f g : List ℕ → List ℕ) (add : List ℕ → List ℕ → List ℕ
   pub chained-starts : (i : ℕ) → begins size i ≡ true → Starts (chained f g add start size) i
   unfolding chained link
   chained-starts i e = record { alike = λ p q x. rw e }
+
+  -- where none begins it does: what was added is told by a sum that tells it
+  pub chained-tells : ((x p q : List ℕ) → length p ≡ length x → length q ≡ length x → add x p ≡ add x q → p ≡ q) → ((x : List ℕ) → length (g x) ≡ 16)
+      → (i : ℕ) → begins size i ≡ false → (p q x : List ℕ) → length p ≡ 16 → length q ≡ 16
+      → chained f g add start size .back i p x ≡ chained f g add start size .back i q x → p ≡ q
+  unfolding chained link
+  chained-tells told long i e p q x hp hq h = told (g x) p q (hp ∙ sym (long x)) (hq ∙ sym (long x)) (rw e at h)
 
   -- ---- one block, with which segment 0 begins
 

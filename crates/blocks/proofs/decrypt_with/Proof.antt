@@ -8,7 +8,7 @@ use lib.Seq.{paste, paste-zero}
 use Rattle.steps.specs.Steps.{unit, before, openAll}
 use Rattle.steps.proofs.Turns.{open-turn}
 use Rattle.blocks.specs.Blocks.{modeStep, stepBy, stepFrom}
-use Rattle.blocks.proofs.Aes.{by-sized}
+use Rattle.blocks.proofs.Aes.{from-sized}
 use Rattle.blocks.proofs.decrypt_with.Statement.{statement}
 use Rattle.blocks.proofs.decrypt_with.Tie as tie
 
@@ -57,7 +57,7 @@ loop-again c =
       omega arith,
       λ h. omega arith,
       o .kept .1 .1 .1 .0 ∙ l .inv .2,
-      open-turn step (by-sized (a .place) (a .mode) (a .w .now) (a .rounds)) (length (a .src .now) / 16) k (l .i) n 0 (l .i)
+      open-turn step (from-sized (a .mode) (a .w .now) (a .rounds) (a .place)) (length (a .src .now) / 16) k (l .i) n 0 (l .i)
           (a .src .now) (a .out .now) (l .out) (o .last .1 .1 .1 .0) (q .open-block .result) (l .before) (x .result)
           (omega arith) here (omega arith) (omega arith) (omega arith) ex (l .inv .4 (t .loop-test .taken)) (q .open-block .ensures) (l .inv .3) (o .ensures),
       λ h. let e : (l .i + n) / 16 ≡ suc k = omega arith in rw e ex,

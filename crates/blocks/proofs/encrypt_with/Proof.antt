@@ -11,7 +11,7 @@ use Rattle.octets.proofs.Parts.{part-part}
 use Rattle.steps.specs.Steps.{unit, before, sealAll}
 use Rattle.steps.proofs.Turns.{seal-turn, seal-last}
 use Rattle.blocks.specs.Blocks.{modeStep, stepBy, stepFrom}
-use Rattle.blocks.proofs.Aes.{by-sized}
+use Rattle.blocks.proofs.Aes.{from-sized}
 use Rattle.blocks.proofs.encrypt_with.Statement.{statement}
 use Rattle.blocks.proofs.encrypt_with.Tie as tie
 
@@ -54,7 +54,7 @@ loop-again c =
     let s : List ℕ = take (a .size) x in
     let long : length s ≡ a .size = length-take-le (a .size) x (rw length-append (omega arith)) in
     let step = stepFrom (a .place) (a .mode) (a .w .now) (a .rounds) in
-    let z = by-sized (a .place) (a .mode) (a .w .now) (a .rounds) in
+    let z = from-sized (a .mode) (a .w .now) (a .rounds) (a .place) in
     let n = length s / 16 in
     let ex : f .result ≡ unit 16 k s = f .ensures ∙ rw (here, part-part 16 (l .i) (a .size) 0 x (omega arith), zero-add) in
     let ep = l .inv .4 (t .loop-test .taken) in (
