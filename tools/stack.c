@@ -48,6 +48,9 @@ static size_t most;
 #define INFO(i) AS(info[i]), INFO_SIZE
 #define PASSWORD AS(password), UNITS
 #define SCHEME(i) ((i) < 3 ? ROPESHADOW_ECB : ROPESHADOW_CHAINED)
+/* a package with an extra block, or without, into stream */
+#define SEALED(i) \
+    ropeshadow_seal(info[(i) % 3], INFO_SIZE, password, UNITS, SCHEME(i), package, PACKAGE - (i) % 3, any, any, 1, stream, ROOM)
 #define CALL(f, answer, ...) (name_of = #f, call((void *)(uintptr_t)(f), answer, (uint64_t[ARGUMENTS]){__VA_ARGS__}))
 
 /* One call, which must be answered so; the most that any took is kept. */
@@ -104,8 +107,15 @@ int main(void)
         CALL(ropeshadow_seal, 0, INFO(i % 3), PASSWORD, SCHEME(i), AS(package), PACKAGE - i % 3, any, any, 1, AS(stream), ROOM);
     tell();
     for (uint64_t i = 0; i < 6; i++) {
-        uint64_t sealed = ropeshadow_seal(info[i % 3], INFO_SIZE, password, UNITS, SCHEME(i), package, PACKAGE - i % 3, any, any, 1, stream, ROOM);
+        uint64_t sealed = SEALED(i);
         CALL(ropeshadow_open, 0, INFO(i % 3), PASSWORD, SCHEME(i), AS(stream), ROPESHADOW_SIZE(sealed), AS(opened), ROOM);
+    }
+    tell();
+    /* a stretch over blocks, and one within a block */
+    for (uint64_t i = 0; i < 6; i++) {
+        uint64_t size = ROPESHADOW_SIZE(SEALED(i));
+        CALL(ropeshadow_stretch, 0, INFO(i % 3), PASSWORD, SCHEME(i), AS(stream), size, 5, PACKAGE - 3, AS(opened), ROOM);
+        CALL(ropeshadow_stretch, 0, INFO(i % 3), PASSWORD, SCHEME(i), AS(stream), size, 5, 9, AS(opened), ROOM);
     }
     tell();
     return 0;

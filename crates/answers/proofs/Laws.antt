@@ -5,7 +5,7 @@ use mathlib.Core.Bool.{Bool, true, false, cond, _&&_, _||_, true≢false}
 use mathlib.Core.List.{List, [], _∷_, _++_}
 use Prim.Native.Nat.{ℕ, zero, suc, _+_, _≤_, _<_}
 use native.Mathlib.Omega.{arith}
-use borrow.Author.Tests.{eqb-true, eqb-false, ltb-false, le-ltb}
+use borrow.Author.Tests.{eqb-true, eqb-false, ltb-false, lt-ltb, le-ltb}
 use lib.Dec.{T, ltb, eqb, ltb→lt}
 use Rattle.answers.specs.Rules.{Rule, rule, firstOf, after, roomRules, AllHold, First, aboveZero, numbered, testOf, numbers, OneOf}
 
@@ -167,6 +167,22 @@ listed (r ∷ rs) =
 pub listed-in : (rs : List Rule) (ns : List ℕ) → numbers rs ≡ ns → OneOf (0 ∷ ns) (firstOf rs)
 listed-in rs ns e = subst (λ (ms : List ℕ). OneOf (0 ∷ ms) (firstOf rs)) e (listed rs)
 
+-- a number that is not the second's is given where the first gives it
+module _ (rs ts : List Rule) (t : T (numbered rs)) (n : ℕ) (some : n ≡ 0 → ⊥) (absent : OneOf (numbers ts) n → ⊥) where
+  by-second : OneOf (0 ∷ numbers ts) n → ⊥
+  by-second (inl e) = some e
+  by-second (inr o) = absent o
+
+  to-front : firstOf (rs ++ ts) ≡ n → firstOf rs ≡ n
+  to-front h =
+      elim (either (eqb (firstOf rs) 0)) [
+        | inl e ↦ absurd (by-second (subst (OneOf (0 ∷ numbers ts)) (sym (then rs ts t (eqb-true _ _ e)) ∙ h) (listed ts)))
+        | inr e ↦ sym (stop rs ts (eqb-false _ _ e)) ∙ h
+      ]
+
+  pub front-decides : (firstOf (rs ++ ts) ≡ n) ↔ (firstOf rs ≡ n)
+  front-decides = (to-front, λ h. stop rs ts (λ z. some (sym h ∙ z)) ∙ h)
+
 -- lists end to end have the numbers of both
 pub numbers-both : (rs ts : List Rule) → numbers (rs ++ ts) ≡ numbers rs ++ numbers ts
 numbers-both [] ts = refl
@@ -194,6 +210,10 @@ answer-within rs = omega (arith, one-within (0 ∷ numbers rs) (firstOf rs) (lis
 pub room-numbers : (room size : ℕ) → numbers (roomRules room size) ≡ 16 ∷ []
 unfolding roomRules
 room-numbers room size = refl
+
+pub room-broken : (room size : ℕ) → room < size → firstOf (roomRules room size) ≡ 16
+unfolding roomRules
+room-broken room size h = broke (rule 16 (ltb room size)) [] (lt-ltb room size h)
 
 -- it holds exactly where the room is no less
 pub roomy : (room size : ℕ) → (firstOf (roomRules room size) ≡ 0) ↔ (size ≤ room)

@@ -65,6 +65,11 @@ module _ (s : List ℕ) (h : Admitted s) where
 
 -- ---- the scheme
 
+-- the record has it as it was given
+pub scheme-given : (s : List ℕ) (scheme : ℕ) → stream.described s scheme .scheme ≡ scheme
+unfolding stream.described
+scheme-given s scheme = refl
+
 pub scheme-numbers : (scheme : ℕ) → numbers (stream.schemeRules scheme) ≡ 19 ∷ []
 unfolding stream.schemeRules
 scheme-numbers scheme = refl

@@ -11,28 +11,24 @@ use lib.Seq.{take-at, take-nil}
 use Rattle.answers.specs.Rules.{firstOf}
 use Rattle.answers.proofs.Laws.{either}
 use Rattle.steps.specs.Steps.{Step, unit, before, openUnits, openAll, Starts, Sized}
-use Rattle.steps.specs.Chained.{begins}
 use Rattle.steps.proofs.Units.{unit-cut}
 use Rattle.steps.proofs.Made.{length-open}
 use Rattle.steps.proofs.Alike.{opened-alike}
-use Rattle.descriptor.specs.Info.{described}
-use Rattle.password.specs.Lock.{Lock, descriptorOf}
+use Rattle.password.specs.Lock.{Lock}
 use Rattle.lengths.specs.Lengths.{streamSize}
-use Rattle.sheet.specs.Frame.{pairOf}
-use Rattle.sheet.specs.Scheme.{stepOf}
-use Rattle.sheet.specs.Sheet.{streamRules, openRules, sheetKey, sheetStep, opening, packageOf, opened}
-use Rattle.sheet.proofs.Scheme.{step-width, step-sized, step-starts}
-use Rattle.sheet.proofs.Laws.{open-answer}
+use Rattle.sheet.specs.Sheet.{streamRules, openRules, sheetStep, packageOf, opened}
+use Rattle.sheet.proofs.Keyed.{sheet-width, sheet-sized, sheet-cut}
+use Rattle.sheet.proofs.Laws.{open-answer, package-front}
 use Rattle.promises.specs.Words.{writtenPart}
 use Rattle.promises.specs.BlockLaw.{Linked, Agree, BlockLaw}
+use Rattle.promises.specs.Demand1.{openNumbers}
+use Rattle.promises.proofs.Ended.{call-wrote}
 use Rattle.promises.proofs.Demand1.{demand-1}
 
 -- what an opening wrote: the package, or nothing
 module _ (lock : Lock) (s out : List ℕ) where
   wrote-package : opened lock s out .reply .answer ≡ 0 → writtenPart (opened lock s out) ≡ packageOf lock s
-  wrote-package z =
-      let h = demand-1 .opening lock s out .accepted z in
-      ap (take (opened lock s out .reply .size)) (h .bytes) ∙ take-at (packageOf lock s) _ _ (sym (h .size))
+  wrote-package = call-wrote openNumbers (packageOf lock s) out (opened lock s out) (demand-1 .opening lock s out)
 
   wrote-none : (opened lock s out .reply .answer ≡ 0 → ⊥) → writtenPart (opened lock s out) ≡ []
   wrote-none z = rw (demand-1 .opening lock s out .ends .refused z .none)
@@ -41,16 +37,14 @@ module _ (lock : Lock) (i : ℕ) (s t : List ℕ) (a : Agree (lock .scheme) i s 
   abbrev size : ℕ
   size = streamSize s
 
-  step : Step
-  step = stepOf (descriptorOf lock) (sheetKey lock) size
+  abbrev step : Step
+  step = sheetStep lock size
 
   width : step .width ≡ 16
-  unfolding step
-  width = step-width (descriptorOf lock) (sheetKey lock) size
+  width = sheet-width lock size
 
   sized : Sized step
-  unfolding step
-  sized = step-sized (descriptorOf lock) (sheetKey lock) size
+  sized = sheet-sized lock size
 
   -- the block before agrees wherever the step is chained to it
   linked : (j : ℕ) → i ≡ j → Linked (lock .scheme) size i → before step j (drop 8 s) ≡ before step j (drop 8 t)
@@ -59,14 +53,10 @@ module _ (lock : Lock) (i : ℕ) (s t : List ℕ) (a : Agree (lock .scheme) i s 
   linked (suc j) e l = let k : i - 1 ≡ j = omega arith in rw (width, ← k) (a .before l)
 
   joint : Starts step i ⊎ (before step i (drop 8 s) ≡ before step i (drop 8 t))
-  unfolding step described
   joint =
-      elim (either (eqb (lock .scheme) 2)) [
-        | inl e ↦ elim (either (begins size i)) [
-          | inl b ↦ inl (step-starts (descriptorOf lock) (sheetKey lock) size i (λ q. b))
-          | inr b ↦ inr (linked i refl (eqb-true _ _ e, b))
-        ]
-        | inr e ↦ inl (step-starts (descriptorOf lock) (sheetKey lock) size i (λ q. absurd (eqb-false (lock .scheme) 2 e q)))
+      elim (sheet-cut lock size i) [
+        | inl b ↦ inl b
+        | inr b ↦ inr (linked i refl b)
       ]
 
   -- behind n units there is none
@@ -94,10 +84,11 @@ module _ (lock : Lock) (i : ℕ) (s t : List ℕ) (a : Agree (lock .scheme) i s 
 
   -- cut to the size
   package-alike : unit 16 i (packageOf lock s) ≡ unit 16 i (packageOf lock t)
-  unfolding packageOf pairOf opening sheetStep step
   package-alike =
-      unit-cut 16 i size (openAll step (drop 8 s)) ∙ ap (take (size - 16 * i)) all-alike ∙ sym (unit-cut 16 i size (openAll step (drop 8 t)))
-      ∙ ap (λ (m : ℕ). unit 16 i (take m (openAll (stepOf (descriptorOf lock) (sheetKey lock) m) (drop 8 t)))) (a .size)
+      ap (unit 16 i) (package-front lock s)
+      ∙ unit-cut 16 i size (openAll step (drop 8 s)) ∙ ap (take (size - 16 * i)) all-alike ∙ sym (unit-cut 16 i size (openAll step (drop 8 t)))
+      ∙ ap (λ (m : ℕ). unit 16 i (take m (openAll (sheetStep lock m) (drop 8 t)))) (a .size)
+      ∙ ap (unit 16 i) (sym (package-front lock t))
 
   module _ (out : List ℕ) where
     same-rules : openRules lock s (length out) ≡ openRules lock t (length out)

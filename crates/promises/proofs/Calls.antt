@@ -20,6 +20,7 @@ use Rattle.password.specs.Lock.{Lock}
 use Rattle.lengths.specs.Lengths.{streamSize}
 use Rattle.sheet.specs.Sheet.{openRules, packageOf, opened, sealed}
 use Rattle.sheet.proofs.Laws.{open-numbers}
+use Rattle.stretch.specs.Stretch.{stretched}
 use Rattle.files.specs.Files.{File, fileRules, fileLock, rules, filesOpened}
 use Rattle.files.proofs.Laws.{file-numbered, file-numbers}
 use Rattle.promises.specs.Words.{Parser, Judge, Opener, Sealer}
@@ -30,8 +31,9 @@ use Rattle.promises.proofs.Ended.{ended-call, by-rules}
 use Rattle.promises.proofs.Demand1.{demand-1, open-fits}
 use Rattle.promises.proofs.Demand2.{demand-2}
 use Rattle.promises.proofs.NewInfo.{writes, new-info}
+use Rattle.promises.proofs.Stretch.{stretches-kept}
 use Rattle.promises.specs.EveryCall.{Block, fileNumbers}
-use Rattle.promises.specs.Calls.{Hashing, Enciphering, Parsing, Judging, Opening, Sealing, Writing, FilesOpening}
+use Rattle.promises.specs.Calls.{Hashing, Enciphering, Parsing, Judging, Opening, Stretching, Sealing, Writing, FilesOpening}
 
 -- ---- the parts
 
@@ -75,7 +77,7 @@ module _ (key block : List ℕ) where
       let s = decryption key block in
       record { ends = block-ends b s; accepts = block-accepts b s; published = block-published b s }
 
--- ---- the four entries of the demands, and the writer
+-- ---- the four entries of the demands, the stretch and the writer
 
 pub parsing : (info : List ℕ) (scheme : ℕ) → Parsing info scheme (parsed info scheme)
 parsing info scheme =
@@ -96,6 +98,14 @@ module _ (lock : Lock) where
         call = demand-1 .opening lock s out;
         answers = demand-2 .open-answer lock s out;
         published = demand-2 .opening lock s out;
+      }
+
+  pub stretching : (stream : List ℕ) (from to : ℕ) (out : List ℕ) → Stretching lock stream from to out (stretched lock stream from to out)
+  stretching s from to out =
+      record {
+        call = stretches-kept .call lock s from to out;
+        answers = stretches-kept .answers lock s from to out;
+        part-of = λ whole. stretches-kept .part-of lock s whole from to out;
       }
 
   pub sealing : («package» filling : List ℕ) (extra : Bool) (out : List ℕ) → length filling ≡ 16

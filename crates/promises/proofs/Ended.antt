@@ -1,15 +1,15 @@
 -- What a call leaves, read field by field: an entry with an output answers by a list of rules and ends by `ended`. Assumes nothing.
-use mathlib.Core.Path.{_≡_, refl}
+use mathlib.Core.Path.{_≡_, refl, sym, ap, _∙_}
 use mathlib.Core.List.{List, _∷_}
 use Prim.Native.Nat.{ℕ, zero, suc, _-_, _≤_}
 use native.Mathlib.Omega.{arith}
 use lib.Dec.{T}
-use lib.ListN.{length, replicate}
+use lib.ListN.{length, take, replicate}
 use lib.Seq.{take-at}
 use Rattle.answers.specs.Rules.{Rule, firstOf, numbered, OneOf}
-use Rattle.answers.specs.Ended.{ended, gives}
+use Rattle.answers.specs.Ended.{Left, ended, gives}
 use Rattle.answers.proofs.Laws.{none-broken, first-broken}
-use Rattle.promises.specs.Words.{Answers, writtenPart}
+use Rattle.promises.specs.Words.{Accepted, Answers, writtenPart}
 use Rattle.promises.specs.Demand1.{OnOutput, Call}
 
 -- a call that ends so ends as demand 1 asks if its answer is listed
@@ -30,6 +30,12 @@ ended-call numbers (suc n) size content out o r =
 -- the first broken rule's number is the answer by the rules
 pub by-rules : (rs : List Rule) → T (numbered rs) → Answers rs (firstOf rs)
 by-rules rs t = record { none = none-broken rs t; first = λ m p. first-broken m rs p }
+
+-- what an accepted call wrote
+pub call-wrote : (numbers content out : List ℕ) (l : Left) → Call numbers content out l → Accepted l → writtenPart l ≡ content
+call-wrote numbers content out l c z =
+    let h = c .accepted z in
+    ap (take (l .reply .size)) (h .bytes) ∙ take-at content _ (l .reply .size) (sym (h .size))
 
 -- what a call wrote that gives a content
 pub wrote : (content out : List ℕ) → writtenPart (gives content out) ≡ content

@@ -18,8 +18,8 @@ use Rattle.promises.specs.NewInfo.{writeNumbers}
 use Rattle.promises.proofs.Ended.{ended-ends}
 use Rattle.promises.proofs.Demand1.{demand-1}
 use Rattle.promises.specs.EveryCall.{EveryCall}
-use Rattle.promises.proofs.Calls.{hashing, encrypting, decrypting, opening-files}
-use Rattle.promises.proofs.Outside.{hash-out, encrypt-out, decrypt-out, descriptor-out, open-out, seal-out, write-out}
+use Rattle.promises.proofs.Calls.{hashing, encrypting, decrypting, stretching, opening-files}
+use Rattle.promises.proofs.Outside.{hash-out, encrypt-out, decrypt-out, descriptor-out, open-out, stretch-out, seal-out, write-out}
 
 -- whatever the sixteen bytes are, or the salt, the verifier and the filling, the rules alone decide
 seal-ends : (lock : Lock) («package» filling : List ℕ) (extra : Bool) (out : List ℕ) → OnOutput sealNumbers out (sealed lock «package» filling extra out)
@@ -40,6 +40,7 @@ every-call =
       parsing = demand-1 .parsing;
       judging = demand-1 .judging;
       opening = λ lock s out. demand-1 .opening lock s out .ends;
+      stretching = λ lock s from to out. stretching lock s from to out .call .ends;
       sealing = seal-ends;
       writing = write-ends;
       files = λ info password s out. opening-files info password s out .call .ends;
@@ -50,6 +51,7 @@ every-call =
       c-verdict = λ lock.
           subst⁻¹ (λ (r : Reply). Concludes {A = Unit} verdictNumbers tt (r .answer) (r .size) tt) (verdict-told lock) (demand-1 .judging lock);
       c-open = λ lock s out. open-out lock s out .call .ends;
+      c-stretch = λ lock s from to out. stretch-out lock s from to out .call .ends;
       c-seal = λ lock «package» low high extra out. seal-out lock «package» low high extra out .call .ends;
       c-write-info = λ bits password name sl sh vl vh fl fh out. write-out bits password name sl sh vl vh fl fh out .call .ends;
     }

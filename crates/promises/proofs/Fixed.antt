@@ -1,4 +1,4 @@
--- Demands 1 and 2, and the promise of new descriptors, leave nothing open: whoever keeps them is the entry itself, for every input. Assumes
+-- Demands 1 and 2, and the promises of a stretch and of new descriptors, leave nothing open: whoever keeps them is the entry itself, for every input. Assumes
 -- nothing.
 use mathlib.Core.Path.{_≡_, refl, sym, ap, _∙_}
 use mathlib.Core.Bool.{Bool}
@@ -6,19 +6,23 @@ use mathlib.Core.List.{List, _++_}
 use Prim.Native.Nat.{ℕ, zero, suc, _-_}
 use native.Mathlib.Omega.{arith}
 use lib.ListN.{length, replicate}
+use lib.Seq.{slice}
 use Rattle.answers.specs.Rules.{Rule}
 use Rattle.answers.specs.Ended.{Left, left, reply}
 use Rattle.descriptor.specs.Info.{parseRules, parsed}
 use Rattle.password.specs.Verdict.{judged, verdictRules}
 use Rattle.password.specs.Lock.{Lock}
 use Rattle.sheet.specs.Sheet.{openRules, sealRules, packageOf, filledWith, sealingOf, opened, sealed}
-use Rattle.promises.specs.Words.{Parser, Judge, Opener, Sealer, Answers}
+use Rattle.stretch.specs.Stretch.{stretchRules, stretched}
+use Rattle.promises.specs.Words.{Parser, Judge, Opener, Stretcher, Sealer, Answers}
 use Rattle.promises.specs.Demand1.{Call, Demand1, openNumbers, sealNumbers}
 use Rattle.promises.specs.Demand2.{Demand2}
 use Rattle.promises.specs.NewInfo.{Input, Typed, Writer, rulesFor, infoFor, writeNumbers, NewInfo}
 use Rattle.promises.proofs.Demand1.{demand-1}
 use Rattle.promises.proofs.Demand2.{demand-2}
+use Rattle.promises.specs.Stretch.{stretchNumbers, Stretches}
 use Rattle.promises.proofs.NewInfo.{writes, new-info}
+use Rattle.promises.proofs.Stretch.{stretches-kept}
 
 -- one list of rules gives one answer
 pub one-answer : (rs : List Rule) (n m : ℕ) → Answers rs n → Answers rs m → n ≡ m
@@ -79,6 +83,12 @@ module _ (parses : Parser) (judges : Judge) (opens : Opener) (seals : Sealer)
       (two .seal-answer lock «package» filling extra out g) (demand-2 .seal-answer lock «package» filling extra out g) in
       one-left sealNumbers (sealingOf lock (filledWith «package» filling extra)) out _ _
       (one .sealing lock «package» filling extra out g) (demand-1 .sealing lock «package» filling extra out g) e
+
+pub the-stretcher : (opens : Opener) (stretches : Stretcher) → Stretches opens stretches → (lock : Lock) (stream : List ℕ) (from to : ℕ) (out : List ℕ)
+    → stretches lock stream from to out ≡ stretched lock stream from to out
+the-stretcher opens stretches k lock s from to out =
+    one-left stretchNumbers (slice from to (packageOf lock s)) out _ _ (k .call lock s from to out) (stretches-kept .call lock s from to out)
+    (one-answer (stretchRules lock s from to (length out)) _ _ (k .answers lock s from to out) (stretches-kept .answers lock s from to out))
 
 pub the-writer : (w : Writer) (parses : Parser) (judges : Judge) (opens : Opener) (seals : Sealer) → NewInfo w parses judges opens seals
     → (i : Input) (out : List ℕ) → Typed i → w i out ≡ writes i out

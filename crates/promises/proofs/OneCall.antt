@@ -7,6 +7,7 @@ use mathlib.Core.List.{List, _∷_}
 use Prim.Native.Nat.{ℕ, zero, suc}
 use native.Mathlib.Omega.{arith}
 use lib.ListN.{length}
+use lib.Seq.{slice}
 use Rattle.answers.specs.Rules.{Rule, AllHold, OneOf}
 use Rattle.answers.specs.Ended.{Left, left, reply}
 use Rattle.answers.specs.declared.Reply.{Reply}
@@ -19,19 +20,21 @@ use Rattle.descriptor.specs.declared.Parsed.{Parsed}
 use Rattle.password.specs.Verdict.{judged, verdictRules}
 use Rattle.password.specs.Lock.{Lock}
 use Rattle.sheet.specs.Sheet.{openRules, sealRules, packageOf, filledWith, sealingOf, opened, sealed}
+use Rattle.stretch.specs.Stretch.{stretchRules, stretched}
 use Rattle.crossing.specs.Crossing.{told, sixteen, twelve, bitCount, chosen, descriptorBytes}
 use Rattle.crossing.proofs.Lossless.{length-sixteen, length-twelve}
 use Rattle.capi.specs.Capi as Capi
-use Rattle.capi.proofs.Told.{verdict-told, open-told, seal-told, write-told}
+use Rattle.capi.proofs.Told.{verdict-told, open-told, stretch-told, seal-told, write-told}
 use Rattle.files.specs.Files.{File, fileLock, rules, filesOpened}
 use Rattle.promises.specs.Words.{Answers}
 use Rattle.promises.specs.Demand1.{Concludes, parseNumbers, openNumbers, sealNumbers}
+use Rattle.promises.specs.Stretch.{stretchNumbers}
 use Rattle.promises.specs.NewInfo.{Input, Typed, rulesFor, infoFor, writeNumbers}
 use Rattle.promises.proofs.NewInfo.{writes}
 use Rattle.promises.proofs.Fixed.{one-answer, one-left}
 use Rattle.promises.specs.EveryCall.{hashNumbers, blockNumbers, fileNumbers}
-use Rattle.promises.specs.Calls.{Hashing, Enciphering, Parsing, Judging, Opening, Sealing, Writing, FilesOpening, Value, HashOut, BlockOut, DescriptorOut, VerdictOut, input}
-use Rattle.promises.proofs.Calls.{hashing, encrypting, decrypting, parsing, judging, opening, sealing, writing, opening-files}
+use Rattle.promises.specs.Calls.{Hashing, Enciphering, Parsing, Judging, Opening, Stretching, Sealing, Writing, FilesOpening, Value, HashOut, BlockOut, DescriptorOut, VerdictOut, input}
+use Rattle.promises.proofs.Calls.{hashing, encrypting, decrypting, parsing, judging, opening, stretching, sealing, writing, opening-files}
 use Rattle.promises.proofs.Outside.{hash-out, encrypt-out, decrypt-out, descriptor-out}
 
 -- two calls that end with one answer give the same if they do where it is 0
@@ -90,6 +93,13 @@ pub one-opening : (lock : Lock) (stream out : List ℕ) (l : Left) → Opening l
 one-opening lock s out l k =
     let d = opening lock s out in
     one-left openNumbers (packageOf lock s) out _ _ (k .call) (d .call) (one-answer (openRules lock s (length out)) _ _ (k .answers) (d .answers))
+
+pub one-stretching : (lock : Lock) (stream : List ℕ) (from to : ℕ) (out : List ℕ) (l : Left) → Stretching lock stream from to out l
+    → l ≡ stretched lock stream from to out
+one-stretching lock s from to out l k =
+    let d = stretching lock s from to out in
+    one-left stretchNumbers (slice from to (packageOf lock s)) out _ _ (k .call) (d .call)
+    (one-answer (stretchRules lock s from to (length out)) _ _ (k .answers) (d .answers))
 
 pub one-sealing : (lock : Lock) («package» filling : List ℕ) (extra : Bool) (out : List ℕ) → length filling ≡ 16 → (l : Left)
     → Sealing lock «package» filling extra out l → l ≡ sealed lock «package» filling extra out
@@ -161,6 +171,10 @@ module _ (w : ℕ) (now : List ℕ) where
   pub c-opening : (lock : Lock) (stream out : List ℕ) → Opening lock stream out (left (told w) now)
       → Capi.outcome w now ≡ Capi.openOutcome lock stream out
   c-opening lock s out k = one-outcome w now _ (one-opening lock s out _ k ∙ sym (open-told lock s out))
+
+  pub c-stretching : (lock : Lock) (stream : List ℕ) (from to : ℕ) (out : List ℕ) → Stretching lock stream from to out (left (told w) now)
+      → Capi.outcome w now ≡ Capi.stretchOutcome lock stream from to out
+  c-stretching lock s from to out k = one-outcome w now _ (one-stretching lock s from to out _ k ∙ sym (stretch-told lock s from to out))
 
   pub c-sealing : (lock : Lock) («package» : List ℕ) (low high extra : ℕ) (out : List ℕ)
       → Sealing lock «package» (sixteen low high) (chosen extra) out (left (told w) now)

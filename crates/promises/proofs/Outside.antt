@@ -18,13 +18,13 @@ use Rattle.password.specs.Lock.{Lock}
 use Rattle.crossing.specs.Crossing.{told, sixteen, twelve, bitCount, chosen, descriptorBytes}
 use Rattle.crossing.proofs.Lossless.{length-sixteen, length-twelve}
 use Rattle.capi.specs.Capi as Capi
-use Rattle.capi.proofs.Told.{hash-told, encrypt-told, decrypt-told, parse-told, verdict-told, open-told, seal-told, write-told}
+use Rattle.capi.proofs.Told.{hash-told, encrypt-told, decrypt-told, parse-told, verdict-told, open-told, stretch-told, seal-told, write-told}
 use Rattle.promises.specs.Words.{Answers}
 use Rattle.promises.specs.Demand1.{parseNumbers}
 use Rattle.promises.proofs.NewInfo.{writes}
 use Rattle.promises.specs.EveryCall.{hashNumbers, blockNumbers}
-use Rattle.promises.specs.Calls.{Enciphering, Opening, Sealing, Writing, Value, HashOut, BlockOut, DescriptorOut, VerdictOut, input}
-use Rattle.promises.proofs.Calls.{hashing, encrypting, decrypting, parsing, judging, opening, sealing, writing}
+use Rattle.promises.specs.Calls.{Enciphering, Opening, Stretching, Sealing, Writing, Value, HashOut, BlockOut, DescriptorOut, VerdictOut, input}
+use Rattle.promises.proofs.Calls.{hashing, encrypting, decrypting, parsing, judging, opening, stretching, sealing, writing}
 
 -- what is so of the outcome that a function ensures is so of what its caller has
 pub carried : (P : Left → Type 0) {w : ℕ} {now : List ℕ} {o : Capi.Outcome} → Capi.outcome w now ≡ o → P (Capi.readBack o) → P (left (told w) now)
@@ -89,6 +89,10 @@ module _ (lock : Lock) where
 
   pub open-out : (stream out : List ℕ) → Opening lock stream out (Capi.readBack (Capi.openOutcome lock stream out))
   open-out s out = subst⁻¹ (Opening lock s out) (open-told lock s out) (opening lock s out)
+
+  pub stretch-out : (stream : List ℕ) (from to : ℕ) (out : List ℕ)
+      → Stretching lock stream from to out (Capi.readBack (Capi.stretchOutcome lock stream from to out))
+  stretch-out s from to out = subst⁻¹ (Stretching lock s from to out) (stretch-told lock s from to out) (stretching lock s from to out)
 
   pub seal-out : («package» : List ℕ) (low high extra : ℕ) (out : List ℕ)
       → Sealing lock «package» (sixteen low high) (chosen extra) out (Capi.readBack (Capi.sealOutcome lock «package» low high extra out))

@@ -6,6 +6,7 @@ use mathlib.Core.Bool.{Bool, true}
 use mathlib.Core.List.{List, _++_}
 use Prim.Native.Nat.{ℕ, _+_, _-_, _≤_}
 use lib.ListN.{length, replicate}
+use lib.Seq.{slice}
 use Rattle.answers.specs.Rules.{AllHold}
 use Rattle.answers.specs.Ended.{Left, left, gives}
 use Rattle.answers.specs.declared.Reply.{Reply}
@@ -18,7 +19,8 @@ use Rattle.descriptor.specs.declared.Parsed.{Parsed}
 use Rattle.password.specs.Verdict.{verdictRules}
 use Rattle.password.specs.Lock.{Lock}
 use Rattle.lengths.specs.Lengths.{fillingFor}
-use Rattle.sheet.specs.Sheet.{openRules, sealRules, packageOf, filledWith, sealingOf, sealed}
+use Rattle.sheet.specs.Sheet.{openRules, sealRules, packageOf, filledWith, sealingOf, opened, sealed}
+use Rattle.stretch.specs.Stretch.{stretchRules}
 use Rattle.crossing.specs.Crossing.{descriptorBytes}
 use Rattle.files.specs.Files.{File, fileLock, rules}
 use Rattle.promises.specs.Words.{Scheme, Accepted, Answers, writtenPart}
@@ -26,6 +28,7 @@ use Rattle.promises.specs.Demand1.{OnOutput, Untouched, Call, Parse, Ver
 use Rattle.promises.specs.Demand2.{Accepts, publishedPackage, publishedStream}
 use Rattle.promises.specs.Demand3.{Begins, Only}
 use Rattle.promises.specs.NewInfo.{Input, Within, rulesFor, infoFor, writeNumbers, GivesBack}
+use Rattle.promises.specs.Stretch.{stretchNumbers, PartOf}
 use Rattle.promises.specs.EveryCall.{Hash, Block, hashNumbers, blockNumbers, fileNumbers}
 
 -- ---- one call of an entry
@@ -55,6 +58,12 @@ pub record Opening (lock : Lock) (stream out : List ℕ) (l : Left) : Type 0 whe
   pub call : Call openNumbers (packageOf lock stream) out l
   pub answers : Answers (openRules lock stream (length out)) (l .reply .answer)
   pub published : AllHold (openRules lock stream (length out)) → l ≡ publishedPackage lock stream out
+
+-- a stretch beside an opening of the same stream into any output
+pub record Stretching (lock : Lock) (stream : List ℕ) (from to : ℕ) (out : List ℕ) (l : Left) : Type 0 where
+  pub call : Call stretchNumbers (slice from to (packageOf lock stream)) out l
+  pub answers : Answers (stretchRules lock stream from to (length out)) (l .reply .answer)
+  pub part-of : (whole : List ℕ) → PartOf (opened lock stream whole) from to out l
 
 pub record Sealing (lock : Lock) («package» filling : List ℕ) (extra : Bool) (out : List ℕ) (l : Left) : Type 0 where
   pub call : Call sealNumbers (sealingOf lock (filledWith «package» filling extra)) out l

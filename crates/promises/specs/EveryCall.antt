@@ -12,12 +12,14 @@ use Rattle.descriptor.specs.Info.{parsed}
 use Rattle.password.specs.Verdict.{judged}
 use Rattle.password.specs.Lock.{Lock}
 use Rattle.sheet.specs.Sheet.{opened, sealed}
+use Rattle.stretch.specs.Stretch.{stretched}
 use Rattle.writer.specs.Written.{written}
 use Rattle.crossing.specs.Crossing.{told}
 use Rattle.capi.specs.Capi as Capi
 use Rattle.files.specs.Files.{File, filesOpened}
 use Rattle.promises.specs.Demand1.{Concludes, OnOutput, Parse, Verdict, parseNumbers, verdictNumbers, openNumbers, sealNumbers}
 use Rattle.promises.specs.NewInfo.{writeNumbers}
+use Rattle.promises.specs.Stretch.{stretchNumbers}
 
 -- ---- the numbers of the other calls
 
@@ -52,6 +54,7 @@ pub record EveryCall : Type 0 where
   pub parsing : (info : List ℕ) (scheme : ℕ) → Parse (parsed info scheme)
   pub judging : (lock : Lock) → Verdict (judged lock)
   pub opening : (lock : Lock) (stream out : List ℕ) → OnOutput openNumbers out (opened lock stream out)
+  pub stretching : (lock : Lock) (stream : List ℕ) (from to : ℕ) (out : List ℕ) → OnOutput stretchNumbers out (stretched lock stream from to out)
   pub sealing : (lock : Lock) («package» filling : List ℕ) (extra : Bool) (out : List ℕ) → OnOutput sealNumbers out (sealed lock «package» filling extra out)
   pub writing : (bits : ℕ) (password name salt verifier filling out : List ℕ)
       → OnOutput writeNumbers out (written bits password name salt verifier filling out)
@@ -62,6 +65,7 @@ pub record EveryCall : Type 0 where
   pub c-parse : (info : List ℕ) (scheme : ℕ) (out : List ℕ) → FromC parseNumbers out (Capi.parseOutcome info scheme out)
   pub c-verdict : (lock : Lock) → let r = told (Capi.verdictWord lock) in Concludes {A = Unit} verdictNumbers tt (r .answer) (r .size) tt
   pub c-open : (lock : Lock) (stream out : List ℕ) → FromC openNumbers out (Capi.openOutcome lock stream out)
+  pub c-stretch : (lock : Lock) (stream : List ℕ) (from to : ℕ) (out : List ℕ) → FromC stretchNumbers out (Capi.stretchOutcome lock stream from to out)
   pub c-seal : (lock : Lock) («package» : List ℕ) (low high extra : ℕ) (out : List ℕ)
       → FromC sealNumbers out (Capi.sealOutcome lock «package» low high extra out)
   pub c-write-info : (bits : ℕ) (password name : List ℕ) (saltLow saltHigh verifierLow verifierHigh fillingLow fillingHigh : ℕ) (out : List ℕ)

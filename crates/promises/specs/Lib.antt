@@ -7,5 +7,6 @@ pub mod Possible
 pub mod NewInfo
 pub mod ExtraBlock
 pub mod BlockLaw
+pub mod Stretch
 pub mod EveryCall
 pub mod Calls

@@ -1,5 +1,5 @@
 -- The words that the promises are written in. An entry is a function from all that comes in to all that is left, so a promise can be
--- made by ours, `parsed`, `judged`, `opened` and `sealed`, or asked of any other. Assumes nothing.
+-- made by ours, `parsed`, `judged`, `opened`, `stretched` and `sealed`, or asked of any other. Assumes nothing.
 use mathlib.Core.Path.{_≡_}
 use mathlib.Core.Logic.{_↔_}
 use mathlib.Core.Bool.{Bool}
@@ -26,6 +26,10 @@ Judge = Lock → ℕ
 -- it, a package stream and the output as it was give an answer, a size and the output as it is left
 abbrev pub Opener : Type 0
 Opener = (lock : Lock) (stream out : List ℕ) → Left
+
+-- the same for the bytes of the package from one place up to, not including, another (request 2026-05)
+abbrev pub Stretcher : Type 0
+Stretcher = (lock : Lock) (stream : List ℕ) (from to : ℕ) (out : List ℕ) → Left
 
 -- the same from a package, sixteen bytes given to fill its last block, and the choice of an extra one
 abbrev pub Sealer : Type 0

@@ -1,6 +1,7 @@
 -- A verdict of 0 comes with the key: the step under it undoes itself, so sealing and opening are each other's inverse. Assumes nothing.
-use mathlib.Core.Path.{_≡_, ap, subst⁻¹, _∙_}
-use mathlib.Core.Bool.{Bool, true}
+use mathlib.Core.Path.{_≡_, sym, ap, subst⁻¹, _∙_}
+use mathlib.Core.Logic.{_⊎_, inl, inr}
+use mathlib.Core.Bool.{Bool, true, false}
 use mathlib.Core.List.{List}
 use Prim.Native.Nat.{ℕ, _≤_, _<_, _%_, _*_, _/_}
 use borrow.Author.Tests.{eq-eqb}
@@ -9,7 +10,8 @@ use lib.ListN.{length}
 use Rattle.octets.specs.Octets.{Bytes}
 use Rattle.aes.specs.Aes.{keyLength, expanded}
 use Rattle.aes.specs.declared.Expanded.{Expanded}
-use Rattle.steps.specs.Steps.{Sized, Reverses, whole}
+use Rattle.steps.specs.Steps.{Starts, Sized, Reverses, whole}
+use Rattle.steps.specs.Chained.{begins}
 use Rattle.steps.proofs.Made.{length-open-all, length-seal-all}
 use Rattle.steps.proofs.Inverse.{step-reversible}
 use Rattle.blocks.specs.Blocks.{stepFrom, streamStart}
@@ -28,7 +30,7 @@ use Rattle.sheet.specs.Frame.{Sound, OneToOne}
 use Rattle.sheet.specs.Scheme.{modeOf}
 use Rattle.sheet.specs.Sheet.{lengths, sheetKey, sheetStep, sealing, opening}
 use Rattle.sheet.proofs.Frame.{inverse}
-use Rattle.sheet.proofs.Scheme.{step-width, step-sized, step-reverses, mode-started}
+use Rattle.sheet.proofs.Scheme.{step-width, step-sized, step-reverses, step-cut, step-tells, mode-started}
 
 module _ (lock : Lock) where
   pub key-bytes : Bytes (sheetKey lock)
@@ -42,35 +44,49 @@ module _ (lock : Lock) where
   units size n = whole (sheetStep lock size .width) n
 
   module _ (size : ℕ) where
-    width : sheetStep lock size .width ≡ 16
+    pub sheet-width : sheetStep lock size .width ≡ 16
     unfolding sheetStep
-    width = step-width (descriptorOf lock) (sheetKey lock) size
+    sheet-width = step-width (descriptorOf lock) (sheetKey lock) size
 
-    sized : Sized (sheetStep lock size)
+    pub sheet-sized : Sized (sheetStep lock size)
     unfolding sheetStep
-    sized = step-sized (descriptorOf lock) (sheetKey lock) size
+    sheet-sized = step-sized (descriptorOf lock) (sheetKey lock) size
 
-    reverses : Reverses (sheetStep lock size)
+    pub sheet-reverses : Reverses (sheetStep lock size)
     unfolding sheetStep
-    reverses = step-reverses (descriptorOf lock) (sheetKey lock) size key-bytes
+    sheet-reverses = step-reverses (descriptorOf lock) (sheetKey lock) size key-bytes
+
+    -- a block is opened without a look at the one before it, or it is linked to it, and then tells it
+    pub sheet-cut : (i : ℕ) → Starts (sheetStep lock size) i ⊎ ((lock .scheme ≡ 2) × (begins size i ≡ false))
+    unfolding sheetStep
+    sheet-cut i =
+        elim (step-cut (descriptorOf lock) (sheetKey lock) size i) [
+          | inl b ↦ inl b
+          | inr b ↦ inr (sym (descriptor.scheme-given (lock .info) (lock .scheme)) ∙ b .0, b .1)
+        ]
+
+    pub sheet-tells : (i : ℕ) → lock .scheme ≡ 2 → begins size i ≡ false → (p q x : List ℕ) → length p ≡ 16 → length q ≡ 16
+        → sheetStep lock size .back i p x ≡ sheetStep lock size .back i q x → p ≡ q
+    unfolding sheetStep
+    sheet-tells i e = step-tells (descriptorOf lock) (sheetKey lock) size i (descriptor.scheme-given (lock .info) (lock .scheme) ∙ e)
 
     pub length-sealed : (s : List ℕ) → length (sealing lock size s) ≡ 16 * (length s / 16)
     unfolding sealing
-    length-sealed s = length-seal-all (sheetStep lock size) sized s ∙ rw width
+    length-sealed s = length-seal-all (sheetStep lock size) sheet-sized s ∙ rw sheet-width
 
     pub length-opened : (s : List ℕ) → length (opening lock size s) ≡ 16 * (length s / 16)
     unfolding opening
-    length-opened s = length-open-all (sheetStep lock size) sized s ∙ rw width
+    length-opened s = length-open-all (sheetStep lock size) sheet-sized s ∙ rw sheet-width
 
     fitting : (n : ℕ) → n % 16 ≡ 0 → units size n ≡ true
     unfolding whole
-    fitting n h = rw width (eq-eqb (n % 16) 0 h)
+    fitting n h = rw sheet-width (eq-eqb (n % 16) 0 h)
 
   pub sound : Sound lengths units (sealing lock) (opening lock)
   unfolding lengths packageLimit sealing opening
   sound =
       record {
-        reversible = λ size. step-reversible (sheetStep lock size) (reverses size);
+        reversible = λ size. step-reversible (sheetStep lock size) (sheet-reverses size);
         fitting = λ size n h e. fitting size _ (allowed-whole size n e);
         held = lit< tt;
       }

@@ -1,7 +1,8 @@
 -- The ways out of opening and sealing, a law for each: a refusal by the first broken rule, and the content. Assumes nothing.
 use mathlib.Core.Path.{_≡_, refl, sym, ap, _∙_}
 use mathlib.Core.Bool.{Bool}
-use mathlib.Core.List.{List, [], _∷_, _++_}
+use mathlib.Core.List.{List, [], _∷_, _++_, append-assoc}
+use mathlib.Core.Logic.{_↔_}
 use Prim.Native.Nat.{ℕ, _+_, _-_, _≤_}
 use native.Mathlib.Omega.{arith}
 use lib.Dec.{T}
@@ -10,15 +11,16 @@ use lib.Seq.{length-take-le}
 use Rattle.octets.specs.Octets.{Bytes}
 use Rattle.octets.proofs.Below.{take-below}
 use Rattle.octets.proofs.Numbers.{length-leBytes}
-use Rattle.answers.specs.Rules.{firstOf, after, numbered, numbers}
+use Rattle.answers.specs.Rules.{firstOf, after, roomRules, numbered, numbers, OneOf}
 use Rattle.answers.specs.Ended.{left, reply}
-use Rattle.answers.proofs.Laws.{in-turn, after-none, both-zero, numbers-both, by-numbers}
+use Rattle.answers.proofs.Laws.{in-turn, after-none, both-zero, front-decides, numbers-both, by-numbers, room-numbers}
 use Rattle.answers.proofs.Endings.{ended-answer, ended-refused, ended-done}
 use Rattle.steps.specs.Steps.{openAll}
 use Rattle.password.specs.Lock.{Lock}
 use Rattle.password.specs.Verdict.{judged, verdictRules}
 use Rattle.password.proofs.Laws.{verdict-numbered, verdictList, verdict-numbers}
-use Rattle.lengths.specs.Lengths.{streamSize, packageLimit, fillingFor, rounded, allowed, sealedSize}
+use Rattle.lengths.specs.Lengths.{streamSize, lengthRules, packageLimit, fillingFor, rounded, allowed, sealedSize}
+use Rattle.lengths.proofs.Rules.{length-numbers}
 use Rattle.lengths.proofs.Fillings.{filling-most, rounded-whole, filling-allowed, allowed-rounded}
 use Rattle.sheet.specs.Frame.{Pair, pair, streamOf, pairOf, Lawful}
 use Rattle.sheet.specs.Sheet.{lengths, streamRules, packageRules, openRules, sealRules, sheetStep, sealing, opening, packageOf, filledWith, sealingOf, opened, sealed}
@@ -67,6 +69,20 @@ module _ (lock : Lock) where
     -- so it is for an accepted call
     pub open-zero : opened lock s out .reply .answer ≡ 0 → (judged lock ≡ 0) × Openable s (length out)
     open-zero h = open-holds (sym open-answer ∙ h)
+
+    -- the rules before the one on room, and that it does not count for their numbers
+    pub early-numbered : T (numbered (verdictRules lock ++ lengthRules (length s) (streamSize s)))
+    early-numbered =
+        by-numbers (verdictRules lock ++ lengthRules (length s) (streamSize s)) (verdictList ++ (13 ∷ 14 ∷ 15 ∷ []))
+        (numbers-both (verdictRules lock) (lengthRules (length s) (streamSize s)) ∙ rw (verdict-numbers lock, length-numbers (length s) (streamSize s))) tt
+
+    pub open-front : (n : ℕ) → (n ≡ 0 → ⊥) → (OneOf (16 ∷ []) n → ⊥)
+        → (firstOf (openRules lock s (length out)) ≡ n) ↔ (firstOf (verdictRules lock ++ lengthRules (length s) (streamSize s)) ≡ n)
+    unfolding openRules streamRules
+    open-front n some absent =
+        rw (← append-assoc (verdictRules lock) (lengthRules (length s) (streamSize s)) (roomRules (length out) (streamSize s)))
+        (front-decides (verdictRules lock ++ lengthRules (length s) (streamSize s)) (roomRules (length out) (streamSize s)) early-numbered n some
+        (rw (room-numbers (length out) (streamSize s)) absent))
 
   module _ («package» filling : List ℕ) (extra : Bool) (out : List ℕ) where
     pub seal-numbers : numbers (sealRules lock extra (length «package») (length out)) ≡ verdictList ++ 14 ∷ 16 ∷ []

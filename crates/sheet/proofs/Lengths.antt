@@ -8,8 +8,8 @@ use Prim.Native.Nat.{ℕ, _-_, _*_, _/_, _≤_}
 use native.Mathlib.Omega.{arith}
 use lib.ListN.{length, drop, length-drop}
 use Rattle.octets.specs.Octets.{Bytes}
-use Rattle.answers.specs.Rules.{firstOf, roomRules, numbers}
-use Rattle.answers.proofs.Laws.{then, both-zero, numbers-both, room-numbers, roomy}
+use Rattle.answers.specs.Rules.{firstOf, after, roomRules, numbers}
+use Rattle.answers.proofs.Laws.{in-turn, then, both-zero, numbers-both, room-numbers, roomy}
 use Rattle.lengths.specs.Lengths.{streamSize, packageLimit, sealedSize, lengthRules, sizeRules}
 use Rattle.lengths.proofs.Fillings.{rounded-whole, allowed-rounded}
 use Rattle.lengths.proofs.Rules.{Fitting, fitting, fitting-holds, fitting-filling, lengths-numbered, length-numbers, limited, size-numbered, size-numbers}
@@ -27,6 +27,11 @@ module _ (s : List ℕ) (room : ℕ) where
   unfolding streamRules
   stream-numbers =
       numbers-both (lengthRules (length s) (streamSize s)) (roomRules room (streamSize s)) ∙ rw (length-numbers (length s) (streamSize s), room-numbers room (streamSize s))
+
+  -- the lengths decide, and after them the room
+  pub stream-in-turn : firstOf (streamRules s room) ≡ after (firstOf (lengthRules (length s) (streamSize s))) (firstOf (roomRules room (streamSize s)))
+  unfolding streamRules
+  stream-in-turn = in-turn (lengthRules (length s) (streamSize s)) (roomRules room (streamSize s)) (lengths-numbered _ _)
 
   to-openable : firstOf (streamRules s room) ≡ 0 → Openable s room
   unfolding streamRules

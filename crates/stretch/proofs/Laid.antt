@@ -9,8 +9,8 @@ use native.Mathlib.Omega.{arith}
 use borrow.Author.Tests.{ltb-true, ltb-false}
 use lib.Dec.{ltb}
 use lib.ListN.{length, take, drop, replicate, length-take, length-drop, drop-of-length-le}
-use lib.Seq.{paste, paste-zero, slice, take-all, take-take, drop-drop, length-paste}
-use Rattle.octets.proofs.Parts.{drop-take, part-part, paste-on, paste-whole}
+use lib.Seq.{paste, paste-zero, take-all, drop-drop, length-paste}
+use Rattle.octets.proofs.Parts.{part-part, paste-on, paste-whole}
 use Rattle.answers.specs.Rules.{firstOf}
 use Rattle.answers.specs.Ended.{left, ended}
 use Rattle.answers.specs.declared.Reply.{Reply}
@@ -25,10 +25,9 @@ use Rattle.blocks.specs.declared.Place.{Place}
 use Rattle.blocks.proofs.Aes.{by-width, by-first, by-sized}
 use Rattle.password.specs.Lock.{Lock}
 use Rattle.lengths.specs.Lengths.{streamSize}
-use Rattle.sheet.specs.Sheet.{sheetStep, packageOf}
-use Rattle.sheet.proofs.Laws.{package-front}
+use Rattle.sheet.specs.Sheet.{sheetStep}
 use Rattle.stretch.specs.Stretch.{blockBefore, stretchRules, stretched}
-use Rattle.stretch.proofs.Laws.{stretch-holds, stretch-done, length-stretch}
+use Rattle.stretch.proofs.Laws.{slice-opened, stretch-holds, stretch-done, length-stretch}
 
 -- ---- the blocks
 
@@ -109,14 +108,6 @@ module _ (m : Mode) (w : List ℕ) (rounds : ℕ) where
         ∙ paste-on out (drop from plain) y 0 n k n (omega arith) (next .0) (zero-add n) (omega arith) (next .1) ∙ rw end
 
 -- ---- the call
-
--- those bytes of the package, by what is opened
-pub slice-opened : (lock : Lock) (s : List ℕ) (from to : ℕ) → from ≤ to → to ≤ streamSize s
-    → slice from to (packageOf lock s) ≡ take (to - from) (drop from (openAll (sheetStep lock (streamSize s)) (drop 8 s)))
-slice-opened lock s from to h k =
-    let x : List ℕ = openAll (sheetStep lock (streamSize s)) (drop 8 s) in
-    let e : from + (to - from) ≡ to = omega arith in
-    ap (slice from to) (package-front lock s) ∙ ap (drop from) (take-take to (streamSize s) x k ∙ rw e) ∙ drop-take from (to - from) x
 
 pub stretch-written : (lock : Lock) (step : Step) (s out mid end : List ℕ) (from to n : ℕ) (r : Reply)
     → firstOf (stretchRules lock s from to (length out)) ≡ 0 → n ≡ to - from → step ≡ sheetStep lock (streamSize s)

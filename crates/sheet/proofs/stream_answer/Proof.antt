@@ -1,17 +1,14 @@
 -- The rules on the stream's lengths, then the rule on room.
 use mathlib.Core.Path.{sym, _∙_}
 use borrow.Author.Needs.{needs}
-use Rattle.answers.proofs.Laws.{in-turn}
-use Rattle.lengths.proofs.Rules.{lengths-numbered}
-use Rattle.sheet.specs.Sheet.{streamRules}
+use Rattle.sheet.proofs.Lengths.{stream-in-turn}
 use Rattle.sheet.proofs.stream_answer.Statement.{statement}
 use Rattle.sheet.proofs.stream_answer.Tie as tie
 
 returns : tie.Need-returns
-unfolding streamRules
 returns c =
     let z = c .before .before .before .stream-size .ensures in
-    c .then .ensures ∙ rw (c .before .before .stream-answer .ensures, c .before .room-answer .ensures, z) (sym (in-turn _ _ (lengths-numbered _ _)))
+    c .then .ensures ∙ rw (c .before .before .stream-answer .ensures, c .before .room-answer .ensures, z) (sym (stream-in-turn _ _))
 
 pub stream-answer-spec : {M : Type 1} → statement M
 stream-answer-spec =
