@@ -14,10 +14,26 @@ def library():
     here = pathlib.Path(__file__).resolve().parent.parent / "target/lib/libropeshadow.so"
     lib = ctypes.CDLL(os.environ.get("ROPESHADOW", str(here)))
     # a slice is a pointer and a count; a bytes object is never null, even when empty
-    given = [ctypes.c_char_p, ctypes.c_size_t]
-    lib.ropeshadow_open.argtypes = given * 2 + [ctypes.c_uint64] + given + [ctypes.c_void_p, ctypes.c_size_t]
-    lib.ropeshadow_open.restype = ctypes.c_uint64
+    given, number, out = [ctypes.c_char_p, ctypes.c_size_t], [ctypes.c_uint64], [ctypes.c_void_p, ctypes.c_size_t]
+    lib.ropeshadow_open.argtypes = given * 2 + number + given + out
+    lib.ropeshadow_stretch.argtypes = given * 2 + number + given + number * 2 + out
+    lib.ropeshadow_open.restype = lib.ropeshadow_stretch.restype = ctypes.c_uint64
     return lib
+
+def refusal(answer):
+    """An answer other than 0 in words."""
+    return WORDS.get(answer, "EncryptionInfo is damaged, or describes another kind of lock") + f" (answer {answer})"
+
+def streams(book):
+    """EncryptionInfo and EncryptedPackage."""
+    with olefile.OleFileIO(str(book)) as ole:
+        return tuple(ole.openstream(name).read() for name in ("EncryptionInfo", "EncryptedPackage"))
+
+def password_from(file):
+    """The first line of a file, or what is typed where there is none."""
+    if file is None:
+        return getpass.getpass()
+    return pathlib.Path(file).read_text(encoding="utf-8").split("\n")[0].rstrip("\r")
 
 def opened(info, password, stream, scheme=ECB):
     """The answer, and the package where it is 0: other bytes where the package was encrypted by the other scheme."""
@@ -43,16 +59,10 @@ def main():
     if len(sys.argv) not in (2, 3):
         sys.exit(__doc__)
     book = pathlib.Path(sys.argv[1])
-    with olefile.OleFileIO(str(book)) as ole:
-        info, stream = (ole.openstream(name).read() for name in ("EncryptionInfo", "EncryptedPackage"))
-    if len(sys.argv) == 3:
-        password = pathlib.Path(sys.argv[2]).read_text(encoding="utf-8").split("\n")[0].rstrip("\r")
-    else:
-        password = getpass.getpass()
-    answer, package = opened(info, password, stream)
+    info, stream = streams(book)
+    answer, package = opened(info, password_from(sys.argv[2] if len(sys.argv) == 3 else None), stream)
     if answer != 0:
-        words = WORDS.get(answer, "EncryptionInfo is damaged, or describes another kind of lock")
-        sys.exit(f"unlock.py: {book}: {words} (answer {answer})")
+        sys.exit(f"unlock.py: {book}: {refusal(answer)}")
     path = book.with_name(book.name.removesuffix(".xlsx") + ".opened.xlsx")
     save(path, package)
     print(f"{path}: {WORDS[answer]}, {len(package)} bytes")

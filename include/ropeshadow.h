@@ -19,8 +19,8 @@
  *   - until the call returns nobody else, no thread, signal handler or mapped file, writes to what is lent, or reads `out`;
  *   - there is stack enough. On x86-64 a call takes at most so many bytes, measured in the compiled code (tools/stack) and rounded up:
  *     ropeshadow_parse 512, ropeshadow_sha1 1,024, ropeshadow_aes_encrypt 2,048, ropeshadow_aes_decrypt 5,120,
- *     ropeshadow_write_info 8,192, ropeshadow_verdict 10,240, ropeshadow_open 10,240, ropeshadow_seal 10,240.
- *     On Arm nothing was measured.
+ *     ropeshadow_write_info 8,192, ropeshadow_verdict 10,240, ropeshadow_open 10,240, ropeshadow_seal 10,240,
+ *     ropeshadow_stretch 10,240. On Arm nothing was measured.
  * docs/TRUST.md has all that is taken for granted.
  */
 #ifndef ROPESHADOW_H

@@ -12,6 +12,8 @@ extern "C" {
     fn ropeshadow_verdict(info: *const u8, info_size: usize, password: *const u16, units: usize, scheme: u64) -> u64;
     fn ropeshadow_open(info: *const u8, info_size: usize, password: *const u16, units: usize, scheme: u64,
                        stream: *const u8, stream_size: usize, out: *mut u8, room: usize) -> u64;
+    fn ropeshadow_stretch(info: *const u8, info_size: usize, password: *const u16, units: usize, scheme: u64,
+                          stream: *const u8, stream_size: usize, from: u64, to: u64, out: *mut u8, room: usize) -> u64;
     fn ropeshadow_seal(info: *const u8, info_size: usize, password: *const u16, units: usize, scheme: u64,
                        package: *const u8, package_size: usize, low: u64, high: u64, extra: u64, out: *mut u8, room: usize) -> u64;
     fn ropeshadow_write_info(bits: u64, password: *const u16, units: usize, name: *const u8, name_size: usize,
@@ -39,6 +41,7 @@ pub enum Call {
     Parse { info: Vec<u8>, scheme: u64 },
     Verdict { info: Vec<u8>, password: Vec<u16>, scheme: u64 },
     Open { info: Vec<u8>, password: Vec<u16>, scheme: u64, stream: Vec<u8>, room: usize },
+    Stretch { info: Vec<u8>, password: Vec<u16>, scheme: u64, stream: Vec<u8>, from: u64, to: u64, room: usize },
     Seal { info: Vec<u8>, password: Vec<u16>, scheme: u64, package: Vec<u8>, filling: [u8; 16], extra: u64, room: usize },
     Write(Writing),
 }
@@ -71,7 +74,7 @@ impl Call {
             Call::Encrypt { .. } | Call::Decrypt { .. } => 16,
             Call::Parse { .. } => 88,
             Call::Verdict { .. } => 0,
-            Call::Open { room, .. } | Call::Seal { room, .. } | Call::Write(Writing { room, .. }) => *room,
+            Call::Open { room, .. } | Call::Stretch { room, .. } | Call::Seal { room, .. } | Call::Write(Writing { room, .. }) => *room,
         }
     }
 
@@ -82,13 +85,15 @@ impl Call {
 
     /// Whether the returned number has a size.
     fn sized(&self) -> bool {
-        matches!(self, Call::Open { .. } | Call::Seal { .. } | Call::Write(_))
+        matches!(self, Call::Open { .. } | Call::Stretch { .. } | Call::Seal { .. } | Call::Write(_))
     }
 
     /// Whether a call that is answered so has derived a key.
     pub fn derives(&self, answer: u16) -> bool {
         match self {
-            Call::Verdict { .. } | Call::Open { .. } | Call::Seal { .. } => !(1..=11).contains(&answer) && answer != 19,
+            Call::Verdict { .. } | Call::Open { .. } | Call::Stretch { .. } | Call::Seal { .. } => {
+                !(1..=11).contains(&answer) && answer != 19
+            }
             Call::Write(_) => answer == 0,
             _ => false,
         }
@@ -114,6 +119,9 @@ impl Call {
                 Call::Open { info: i, password: p, scheme, stream: s, room } => {
                     ropeshadow_open(i.as_ptr(), i.len(), p.as_ptr(), p.len(), *scheme, s.as_ptr(), s.len(), out, *room)
                 }
+                Call::Stretch { info: i, password: p, scheme, stream: s, from, to, room } => {
+                    ropeshadow_stretch(i.as_ptr(), i.len(), p.as_ptr(), p.len(), *scheme, s.as_ptr(), s.len(), *from, *to, out, *room)
+                }
                 Call::Seal { info: i, password: p, scheme, package: s, filling, extra, room } => {
                     let (low, high) = halves(filling);
                     ropeshadow_seal(i.as_ptr(), i.len(), p.as_ptr(), p.len(), *scheme, s.as_ptr(), s.len(), low, high, *extra, out, *room)
@@ -138,13 +146,16 @@ impl Call {
     }
 
     pub fn by_second(&self) -> Outcome {
-        let written = match self {
+        let given = match self {
             Call::Sha1 { message } => sha1::hashed(message).map(|hash| hash.to_vec()),
             Call::Encrypt { key, block } => Aes::new(key).map(|aes| aes.encrypt(*block).to_vec()),
             Call::Decrypt { key, block } => Aes::new(key).map(|aes| aes.decrypt(*block).to_vec()),
             Call::Parse { info, scheme } => descriptor::parse(info, *scheme).map(|d| d.bytes()),
             Call::Verdict { info, password, scheme } => key::unlock(info, password, *scheme).map(|_| vec![]),
             Call::Open { info, password, scheme, stream, room } => package::open(info, password, *scheme, stream, *room),
+            Call::Stretch { info, password, scheme, stream, from, to, room } => {
+                package::stretch(info, password, *scheme, stream, *from, *to, *room)
+            }
             Call::Seal { info, password, scheme, package, filling, extra, room } => {
                 package::seal(info, password, *scheme, package, *filling, *extra != 0, *room)
             }
@@ -153,8 +164,13 @@ impl Call {
                 writer::write_info(w.bits, &w.password, &w.name, w.salt, w.verifier, filling, w.room)
             }
         };
+        self.left(given)
+    }
+
+    /// What a call leaves that gives these bytes, with zeros after them, or that is answered so.
+    pub fn left(&self, given: Result<Vec<u8>, u16>) -> Outcome {
         let mut memory = self.memory();
-        let word = match written {
+        let word = match given {
             Err(answer) => u64::from(answer),
             Ok(bytes) => {
                 memory[GUARD..GUARD + self.room()].fill(0);

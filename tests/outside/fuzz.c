@@ -1,10 +1,10 @@
 /* libFuzzer on the outside interface. Each buffer is an allocation of exactly its size, so that the sanitizer sees any byte read or
  * written beside it, and `out` is held to what the header says: untouched on a refusal, zeros after the written part.
  *
- * An input's first byte chooses the function, its next ones the lengths, and one the scheme. Two of the functions take a published
- * descriptor with its password (000, section 8), so that what lies behind the right password is reached by every stream. Sealing so takes the filling and
- * the choice of an extra block from the lengths that it has no other use for. The writer's name stands where others have
- * EncryptionInfo, and its seven numbers at the end.
+ * An input's first byte chooses the function, its next ones the lengths, and one the scheme. Three of the functions take a published
+ * descriptor with its password (000, section 8), so that what lies behind the right password is reached by every stream. Sealing so takes
+ * the filling and the choice of an extra block from the lengths that it has no other use for; the ends of a stretch stand before its
+ * stream. The writer's name stands where others have EncryptionInfo, and its seven numbers at the end.
  *
  * With -DONLY=0 every input goes to the parser, which is a thousand times faster than what derives a key. With -DREPLAY it is a
  * program that runs the inputs named on its command line.
@@ -15,9 +15,10 @@
 #include <stdlib.h>
 #include <string.h>
 
-enum { PARSE, OPEN, OPEN_UNLOCKED, SEAL_UNLOCKED, WRITE, FUNCTIONS };
-static const char *const NAMES[FUNCTIONS] = {"parse", "open", "open, right password", "seal, right password", "write"};
-enum { ANSWERS = 20, FRONT = 7 };
+enum { PARSE, OPEN, OPEN_UNLOCKED, SEAL_UNLOCKED, WRITE, STRETCH_UNLOCKED, FUNCTIONS };
+static const char *const NAMES[FUNCTIONS] = {"parse", "open", "open, right password", "seal, right password", "write",
+                                             "stretch, right password"};
+enum { ANSWERS = 21, FRONT = 7 };
 static unsigned long seen[FUNCTIONS][ANSWERS];
 
 static const uint16_t PASSWORD[] = {'p', 'a', 's', 's', 'w', 'o', 'r', 'd'};
@@ -97,12 +98,51 @@ static uint64_t written(const uint16_t *password, size_t units, const uint8_t *n
     }
 }
 
+/* How long the ciphertext of a package of so many bytes is, with an extra block if that is chosen and the package may have one. */
+static uint64_t blocks_of(uint64_t size, int extra) { return (size + 15) / 16 * 16 + (extra && size != 0 && size % 4096 == 0 ? 16 : 0); }
+
 /* Seals a package; the size, and the room that is asked for, are those of the blocks and of StreamSize. */
 static uint64_t sealed(const uint8_t *info, size_t info_size, const uint16_t *password, size_t units, uint64_t scheme,
                        const uint8_t *package, size_t size, uint64_t low, uint64_t high, uint64_t extra, uint8_t *out, size_t room) {
-    size_t whole = 8 + (size + 15) / 16 * 16 + (extra != 0 && size != 0 && size % 4096 == 0 ? 16 : 0);
+    uint64_t whole = 8 + blocks_of(size, extra != 0);
     uint64_t word = ropeshadow_seal(info, info_size, password, units, scheme, package, size, low, high, extra, out, room);
-    if (named(scheme) && word != (room < whole ? (uint64_t)ROPESHADOW_ROOM : 65536 * (uint64_t)whole)) abort();
+    if (named(scheme) && word != (room < whole ? (uint64_t)ROPESHADOW_ROOM : 65536 * whole)) abort();
+    return word;
+}
+
+/* A place in a package by three bytes: two are the place, and the last few values of the third put it far away. */
+static uint64_t place_of(const uint8_t bytes[3]) {
+    static const uint64_t far[8] = {1ull << 16, 1ull << 28, 1ull << 31, 1ull << 32, 1ull << 44, 1ull << 48, 1ull << 63, UINT64_MAX};
+    return bytes[0] + 256u * bytes[1] + (bytes[2] >= 0xf8 ? far[bytes[2] - 0xf8] : 0);
+}
+
+/* The number that a stretch returns where the password is right: what no. 13, 14, 15, 20 and 16 say, in this order, or its size. */
+static uint64_t number_of(const uint8_t *stream, size_t n, uint64_t from, uint64_t to, size_t room) {
+    uint64_t size = 0;
+    if (n < 8) return ROPESHADOW_STREAM_SHORT;
+    for (int i = 7; i >= 0; i--) size = 256 * size + stream[i];
+    if (size > 268435456) return ROPESHADOW_STREAM_SIZE;
+    if (n - 8 != blocks_of(size, 0) && n - 8 != blocks_of(size, 1)) return ROPESHADOW_STREAM_LENGTH;
+    if (from > to || to > size) return ROPESHADOW_RANGE;
+    return room < to - from ? (uint64_t)ROPESHADOW_ROOM : 65536 * (to - from);
+}
+
+/* Opens a stretch: the number is the one that the stream and the ends give, and the bytes are those of the whole package. */
+static uint64_t stretched(const uint8_t *info, size_t info_size, const uint16_t *password, size_t units, uint64_t scheme,
+                          const uint8_t *data, size_t left, uint8_t *out, size_t room) {
+    size_t size;
+    uint8_t ends[6] = {0};
+    const uint8_t *at = taken(&data, &left, sizeof ends, &size);
+    memcpy(ends, at, size);
+    uint64_t from = place_of(ends), to = place_of(ends + 3);
+    uint8_t *stream = copy(data, left), *whole = copy(data, left); /* room for any package of the stream */
+    uint64_t word = ropeshadow_stretch(info, info_size, password, units, scheme, stream, left, from, to, out, room);
+    if (named(scheme) && word != number_of(stream, left, from, to, room)) abort();
+    if (ROPESHADOW_ANSWER(word) == ROPESHADOW_DONE) {
+        uint64_t all = ropeshadow_open(info, info_size, password, units, scheme, stream, left, whole, left);
+        if (ROPESHADOW_ANSWER(all) != ROPESHADOW_DONE || memcmp(out, whole + from, to - from) != 0) abort();
+    }
+    free(stream), free(whole);
     return word;
 }
 
@@ -135,6 +175,7 @@ int LLVMFuzzerTestOneInput(const uint8_t *data, size_t left) {
     if (f == PARSE) word = ropeshadow_parse(info, size, scheme, out);
     else if (f == SEAL_UNLOCKED)
         word = sealed(info, size, password, password_size / 2, scheme, stream, left, units, info_size % 256, info_size / 256, out, room);
+    else if (f == STRETCH_UNLOCKED) word = stretched(info, size, password, password_size / 2, scheme, stream, left, out, room);
     else if (f == WRITE) word = written(password, password_size / 2, info, size, stream, left, out, room);
     else word = ropeshadow_open(info, size, password, password_size / 2, scheme, stream, left, out, room);
     judge(f, word, scheme, out, room, f == PARSE ? 88 : ROPESHADOW_SIZE(word));

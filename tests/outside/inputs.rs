@@ -71,6 +71,11 @@ impl Lock {
         Call::Open { info: self.info.clone(), password: self.password.clone(), scheme, stream: stream.to_vec(), room }
     }
 
+    pub fn stretch(&self, scheme: u64, stream: &[u8], from: u64, to: u64, room: usize) -> Call {
+        let (info, password, stream) = (self.info.clone(), self.password.clone(), stream.to_vec());
+        Call::Stretch { info, password, scheme, stream, from, to, room }
+    }
+
     pub fn seal(&self, scheme: u64, package: &[u8], filling: [u8; 16], extra: u64, room: usize) -> Call {
         let (info, password, package) = (self.info.clone(), self.password.clone(), package.to_vec());
         Call::Seal { info, password, scheme, package, filling, extra, room }
@@ -130,16 +135,18 @@ const VALUES: [u32; 44] = [
     4_095, 4_096, 4_097, 0x660d, 0x660e, 0x660f, 0x6610, 0x6611, 0x6801, 0x8003, 0x8004, 0x8005, u32::MAX,
 ];
 
-/// The rules of opening, in their order.
-const RULES: [u16; 17] = [1, 2, 3, 4, 5, 6, 7, 8, 9, 10, 19, 11, 12, 13, 14, 15, 16];
+/// The rules of opening a stretch, in their order; those of opening are the same without 20.
+const RULES: [u16; 18] = [1, 2, 3, 4, 5, 6, 7, 8, 9, 10, 19, 11, 12, 13, 14, 15, 20, 16];
 
-/// What is broken, or left as it is, for an opening: the descriptor, the password, the scheme, the stream and the room.
+/// What is broken, or left as it is, for an opening: the descriptor, the password, the scheme, the stream, the end of a stretch from its
+/// start on, and the room.
 #[derive(Clone)]
 struct Opening {
     info: Vec<u8>,
     password: Vec<u16>,
     scheme: u64,
     stream: Vec<u8>,
+    to: u64,
     room: usize,
 }
 
@@ -167,6 +174,7 @@ fn broken(o: &mut Opening, rule: u16) {
         15 => o.stream.push(0),
         16 => o.room -= 1,
         19 => o.scheme += 1 << 32,
+        20 => o.to += 1 << 32,
         _ => panic!("no rule of opening"),
     }
 }
@@ -195,6 +203,7 @@ impl Cases {
         cases.random();
         cases.extra_blocks();
         cases.schemes();
+        cases.stretches();
         cases.writes();
         cases
     }
@@ -320,7 +329,7 @@ impl Cases {
             let filling = self.r.sixteen();
             let l = &self.locks[size];
             let stream = l.sealed(scheme, &package, filling, 0);
-            let valid = Opening { info: l.info.clone(), password: l.password.clone(), scheme: scheme.number(), stream, room: 17 };
+            let valid = Opening { info: l.info.clone(), password: l.password.clone(), scheme: scheme.number(), stream, to: 17, room: 17 };
             for (place, &first) in RULES.iter().enumerate() {
                 for &second in &RULES[place..] {
                     let mut o = valid.clone();
@@ -337,7 +346,7 @@ impl Cases {
 
     /// The calls that judge the second of the two rules, each answered with the first.
     fn broken_calls(&mut self, o: Opening, package: &[u8], filling: [u8; 16], first: u16, second: u16) {
-        let Opening { info, password, scheme, stream, room } = o;
+        let Opening { info, password, scheme, stream, to, room } = o;
         let group = "two rules broken";
         if second <= 10 || second == 19 {
             self.known(group, Call::Parse { info: info.clone(), scheme }, first);
@@ -347,7 +356,11 @@ impl Cases {
             let (info, password, package, extra) = (info.clone(), password.clone(), package.to_vec(), self.r.choice());
             self.known(group, Call::Seal { info, password, scheme, package, filling, extra, room: 39 }, first);
         }
-        self.known(group, Call::Open { info, password, scheme, stream, room }, first);
+        if first != 20 && second != 20 {
+            let (info, password, stream) = (info.clone(), password.clone(), stream.clone());
+            self.known(group, Call::Open { info, password, scheme, stream, room }, first);
+        }
+        self.known(group, Call::Stretch { info, password, scheme, stream, from: 0, to, room }, first);
     }
 
     /// Each length of a password, the right one and one with a unit changed.

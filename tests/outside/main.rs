@@ -5,6 +5,7 @@ mod archive;
 mod extra;
 mod inputs;
 mod schemes;
+mod stretches;
 mod writes;
 
 use archive::{GUARD, parts};
@@ -129,7 +130,7 @@ impl Tally {
         for (group, count) in &self.groups {
             println!("{count:>6} {group}");
         }
-        for reply in (0..=16).chain([18, 19]) {
+        for reply in (0..=16).chain(18..=20) {
             if !self.answers.contains_key(&reply) {
                 self.fail(format!("no call was answered {reply}"));
             }
@@ -156,7 +157,7 @@ fn main() {
     for scheme in SCHEMES {
         tally.follow(seed, largest(seed, scheme));
     }
-    for followed in [extra::both_streams(seed), schemes::both_ways(seed), writes::taken_up(seed)] {
+    for followed in [extra::both_streams(seed), schemes::both_ways(seed), stretches::by_blocks(seed), writes::taken_up(seed)] {
         tally.follow(seed, followed);
     }
     tally.report(seed);

@@ -1,7 +1,7 @@
 """Real producers: what Apache POI and LibreOffice lock is opened byte for byte, by the library and by the examples, and what the
 library seals, under their descriptors and under those that it writes itself, is opened by msoffcrypto-tool, Apache POI and LibreOffice.
     producers.py EXAMPLES    the folder with the compiled examples unlock-c and unlock-rs; the shared library is target/lib's"""
-import ctypes, io, os, pathlib, pty, random, select, struct, subprocess, sys, tempfile, zipfile
+import ctypes, io, os, pathlib, pty, random, re, select, struct, subprocess, sys, tempfile, zipfile
 from collections import Counter
 from importlib.metadata import version
 import olefile, openpyxl
@@ -10,7 +10,7 @@ from msoffcrypto.method.ecma376_standard import ECMA376Standard
 sys.dont_write_bytecode = True
 ROOT = pathlib.Path(__file__).resolve().parents[2]
 sys.path.insert(0, str(ROOT / "examples"))
-import unlock
+import part, unlock
 
 JARS = ":".join(f"/usr/share/java/{jar}.jar" for jar in ("poi", "commons-codec", "commons-collections4", "commons-math3"))
 PASSWORDS = ["Secret-42", "pässwörd 測試 \U0001f511", "x", "y" * 255, ""]
@@ -347,6 +347,38 @@ def examples(folder, built, book, package):
     check("Rust: opened", done.returncode == 0 and opened.read_bytes() == package)
     opened.unlink()
 
+def by_parts(folder, book, package):
+    """The example that reads one part: each part of a workbook, none at the cost of the whole package, and what it refuses."""
+    with zipfile.ZipFile(io.BytesIO(package)) as whole:
+        parts = {name: whole.read(name) for name in whole.namelist()}
+    program = ["/usr/bin/python3", ROOT / "examples/part.py", book]
+    def run(secret, *words):
+        done = subprocess.run([*program, *words, "--password", folder / secret], capture_output=True)
+        return done.returncode, done.stdout, done.stderr.decode()
+    for name, contents in parts.items():
+        status, shown, told = run("password", name)
+        check(f"Python, {name} alone", status == 0 and shown == contents)
+        counts = re.search(r": (\d+) of (\d+) bytes opened", told)
+        check(f"Python, {name} by a part of the package", counts and int(counts[1]) < int(counts[2]) == len(package))
+    status, shown, _ = run("password")
+    listed = [line.split(maxsplit=1) for line in shown.decode().splitlines()]
+    check("Python, the list of parts", status == 0 and listed == [[str(len(parts[name])), name] for name in parts])
+    status, shown = typed(program, PASSWORDS[1])
+    check("Python, the list of parts, asked on the terminal, with no echo", status == 0 and PASSWORDS[1] not in shown and "bytes opened" in shown)
+    status, shown, told = run("another")
+    check("Python, a part: wrong password", status == 1 and shown == b"" and "wrong password (answer 12)" in told)
+    status, shown, told = run("password", "no/such/part")
+    check("Python, no such part", status == 1 and shown == b"" and "no/such/part" in told)
+    chained_parts(book, package, parts)
+
+def chained_parts(book, package, parts):
+    """The same workbook chained, read by the example's file."""
+    info, _ = streams(book)
+    stream = sealed(info, PASSWORDS[1], package, scheme=unlock.CHAINED)
+    file = part.Package(info, PASSWORDS[1], stream, unlock.CHAINED)
+    with zipfile.ZipFile(io.BufferedReader(file, part.BUFFER)) as whole:
+        check("Python, chained: each part", {name: whole.read(name) for name in whole.namelist()} == parts)
+
 def large(folder, built, book):
     """A package of some 64 MiB through the example in C."""
     info, _ = streams(book)
@@ -386,6 +418,7 @@ def main():
             worker.close()
         for book, package in books:
             examples(folder, built, book, package)
+            by_parts(folder, book, package)
             command(folder, book, PASSWORDS[1])
             three_files(folder, book, package)
         large(folder, built, book)

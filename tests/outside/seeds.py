@@ -20,6 +20,29 @@ def sealing(size, extra, room, scheme=ECB):
     """The choice of an extra block stands where others have the high byte of EncryptionInfo's length."""
     return bytes([3, 0, 0, extra]) + struct.pack("<HB", room, scheme) + bytes(size)
 
+def place(at, far=0):
+    """An end of a stretch; its last byte is one of the last eight where it lies far away."""
+    return struct.pack("<HB", at, far)
+
+def stretching(size, start, end, room, scheme=ECB, more=0):
+    """The two ends, then a stream with so many bytes more than the blocks of its package. No byte is 0, so that a block which is added
+    to another by mistake, or isn't, shows."""
+    stream = struct.pack("<Q", size) + bytes(1 + i % 251 for i in range(-(-size // 16) * 16 + more))
+    return bytes([5, 0, 0, 0]) + struct.pack("<HB", room, scheme) + start + end + stream
+
+def stretches():
+    """Ends at those of blocks, of segments and of the package, under each scheme, and ends that are far away, backward or past it."""
+    for scheme in (ECB, CHAINED):
+        for start, end in ((0, 0), (0, 17), (1, 16), (16, 17), (17, 17), (17, 16), (17, 18)):
+            yield stretching(17, place(start), place(end), 17, scheme)
+        for size, more in ((4096, 16), (4097, 0), (8192, 0)):
+            for start, end in ((0, size), (15, 4096), (4080, 4096), (4095, size), (4096, size), (size, size)):
+                yield stretching(size, place(start), place(end), end - start + 5, scheme, more)
+    for start, end in (((0, 0xFF), (0, 0xFF)), ((0, 0), (0, 0xFB)), ((1, 0xFB), (2, 0xFB)), ((2, 0xFF), (1, 0))):
+        yield stretching(100, place(*start), place(*end), 100)
+    for room, scheme, more in ((16, ECB, 0), (17, ECB, 1), (17, OTHERS, 0)):
+        yield stretching(100, place(3), place(20), room, scheme, more)
+
 def writing(bits, name, room, password="password"):
     return given(4, password, bytes(name), room, struct.pack("<7Q", bits, *range(6)))
 
@@ -44,6 +67,7 @@ def main():
     seeds += [writing(bits, 108, 224) for bits in (128, 192, 256, 127, 1 << 32 | 128)]
     seeds += [writing(128, name, name + 120) for name in (0, 107, 4064, 4065, 4066)]
     seeds += [writing(256, 2, 117), writing(256, 2, 118, "x" * 255), writing(256, 2, 117, "x" * 256), writing(256, 0, 116, "")]
+    seeds += stretches()
     for n, seed in enumerate(seeds):
         (folder / f"seed-{n:03}").write_bytes(seed)
 

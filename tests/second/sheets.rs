@@ -1,6 +1,7 @@
-//! The lines of opening, sealing and writing that crates/cases prints, by the second implementation. A buffer is full of a5 before each
-//! call.
+//! The lines of opening, of a package and of its stretches, sealing and writing that crates/cases prints, by the second implementation. A
+//! buffer is full of a5 before each call.
 mod chained;
+mod stretches;
 
 use second::{
     key::unlock,
@@ -190,4 +191,5 @@ fn main() {
     written_infos();
     unwritten();
     chained::all();
+    stretches::all();
 }

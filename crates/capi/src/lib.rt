@@ -3,8 +3,8 @@
 //     uint64_t word = ropeshadow_open(info, info_size, password, units, scheme, stream, stream_size, out, room);
 //     if (word % 65536 == 0) { .. the first word / 65536 bytes of out .. }
 //
-// Each returns one number, 01's answer + 65,536 x the size; the size is 0 but for a sheet or a stretch of it opened, a sheet sealed and a descriptor written.
-// With an answer other than 0 the size is 0 and `out` is as it was (specs/Capi.antt).
+// Each returns one number, 01's answer + 65,536 x the size; the size is 0 but for a sheet opened, whole or a stretch of it, or sealed and
+// a descriptor written. With an answer other than 0 the size is 0 and `out` is as it was (specs/Capi.antt).
 //
 // To C a lent slice is two parameters, where it starts and how many elements it has: `&[u8]` is `const uint8_t *, size_t`, `&[u16]` is
 // `const uint16_t *, size_t`, `&mut [u8]` is `uint8_t *, size_t`. A `&mut [u8; 20]` is one, `uint8_t *`, to that many bytes; `u64` is

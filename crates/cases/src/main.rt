@@ -1,9 +1,11 @@
-// The cases of 01 that are run and not proved: a line each, which the gate compares with the file stdout. Each reply from 1 to 16,
-// and 19, is given once where a later rule is broken too, so that the order shows; a refused call shows its buffer as it was.
+// The cases of 01 that are run and not proved: a line each, which the gate compares with the file stdout. Each reply from 1 to 16, and
+// 19 and 20, is given once where a later rule is broken too, so that the order shows; a refused call shows its buffer as it was.
 mod chained;
 mod extra;
 mod info;
+mod ranges;
 mod sheets;
+mod stretches;
 mod writes;
 
 fn main() {
@@ -20,4 +22,6 @@ fn main() {
     chained::swaps();
     chained::refusals();
     chained::unnumbered();
+    stretches::tables();
+    ranges::refusals();
 }
