@@ -16,7 +16,7 @@ use Rattle.fips197.proofs.Undo.{length-cipher, length-invCipher}
 use Rattle.aes.specs.Aes.{keyLength, encryption, decryption, expanded}
 use Rattle.aes.specs.declared.Expanded.{Expanded}
 use Rattle.aes.proofs.Keys.{fits, expanded-fit, cipher-expanded, invCipher-expanded, decryption-encryption, encryption-decryption, length-encryption, length-decryption, encryption-bytes, decryption-bytes}
-use Rattle.steps.specs.Steps.{Step, resumed, Starts, Sized, Reverses}
+use Rattle.steps.specs.Steps.{Step, Starts, Sized, Reverses}
 use Rattle.steps.specs.Ecb.{ecb, Blocks}
 use Rattle.steps.specs.Chained.{begins, link, chained, Sum}
 use Rattle.steps.proofs.Made.{resumed-none, resumed-sized}

@@ -7,7 +7,7 @@ use native.Mathlib.Omega.{arith}
 use borrow.Author.Tests.{eqb-true, eqb-false, ltb-true, ltb-false}
 use lib.Dec.{ltb, eqb}
 use lib.ListN.{length, take, drop, length-drop, drop-of-length-le}
-use lib.Seq.{take-at, take-nil}
+use lib.Seq.{take-nil}
 use Rattle.answers.specs.Rules.{firstOf}
 use Rattle.answers.proofs.Laws.{either}
 use Rattle.steps.specs.Steps.{Step, unit, before, openUnits, openAll, Starts, Sized}

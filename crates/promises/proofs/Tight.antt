@@ -1,20 +1,19 @@
 -- A byte that does not count can be set to another. A block is told by what it opens to, since sealing gives it back; and one that is linked
 -- tells the block before it, since the two are summed. Assumes nothing.
-use mathlib.Core.Path.{_≡_, refl, sym, ap, ap₂, subst, _∙_}
-use mathlib.Core.Logic.{_⊎_, inl, inr}
-use mathlib.Core.Bool.{false}
+use mathlib.Core.Path.{_≡_, refl, sym, ap, subst, _∙_}
+use mathlib.Core.Logic.{inl, inr}
 use mathlib.Core.List.{List, _++_}
 use Prim.Native.Nat.{ℕ, zero, suc, _+_, _-_, _*_, _/_, _≤_, _<_}
 use native.Mathlib.Omega.{arith}
 use borrow.Author.Tests.{eqb-true, eqb-false}
 use lib.Dec.{eqb, lit<}
 use lib.ListN.{length, getD, set, take, drop, replicate, length-set, length-append, length-drop}
-use lib.Seq.{getD-set-same, getD-set-other, take-set-le, getD-drop, getD-append-add, drop-at, take-at}
+use lib.Seq.{getD-set-same, getD-set-other, take-set-le, getD-drop, getD-append-add, drop-at}
 use Rattle.octets.specs.Octets.{Bytes, leBytes}
 use Rattle.octets.proofs.Numbers.{length-leBytes}
 use Rattle.octets.proofs.Below.{append-below, replicate-below, leBytes-bytes}
 use Rattle.answers.proofs.Laws.{either}
-use Rattle.steps.specs.Steps.{Step, unit, before, openUnits, openAll, Starts}
+use Rattle.steps.specs.Steps.{Step, unit, before, openUnits, openAll}
 use Rattle.steps.specs.Chained.{segment, begins}
 use Rattle.steps.specs.Needed.{Needed}
 use Rattle.steps.proofs.Units.{length-unit}

@@ -1,5 +1,5 @@
 -- Block i - 1 of the ciphertext stands sixteen bytes before block i, which stands 16 i bytes behind StreamSize.
-use mathlib.Core.Path.{_≡_, refl, sym, _∙_}
+use mathlib.Core.Path.{_≡_, refl, _∙_}
 use mathlib.Core.List.{List}
 use Prim.Native.Nat.{ℕ, zero, suc, _+_, _-_, _*_}
 use native.Mathlib.Omega.{arith}

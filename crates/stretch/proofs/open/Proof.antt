@@ -1,9 +1,9 @@
 -- The two ways out of `stretched`: a refusal by the first broken rule, and those bytes of the package.
 use mathlib.Core.Path.{_≡_, refl, sym, ap, ap₂, _∙_}
-use Prim.Native.Nat.{_+_, _-_, _≤_}
+use Prim.Native.Nat.{_-_}
 use native.Mathlib.Omega.{arith}
 use borrow.Author.Needs.{needs}
-use lib.ListN.{length, drop, length-drop}
+use lib.ListN.{length, length-drop}
 use Rattle.answers.specs.Rules.{firstOf, after}
 use Rattle.answers.proofs.Endings.{refusal}
 use Rattle.blocks.specs.Blocks.{streamStart}

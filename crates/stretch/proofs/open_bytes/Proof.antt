@@ -1,5 +1,4 @@
 -- What stands before the next block, and then that block and those after it, laid right behind.
-use Prim.Native.Nat.{_+_, _*_, _/_, _<_}
 use native.Mathlib.Omega.{arith}
 use borrow.Author.Needs.{needs}
 use Rattle.stretch.proofs.Laid.{bytes-laid}
