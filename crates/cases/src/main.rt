@@ -3,7 +3,6 @@
 mod chained;
 mod extra;
 mod info;
-mod ranges;
 mod sheets;
 mod stretches;
 mod writes;
@@ -23,5 +22,5 @@ fn main() {
     chained::refusals();
     chained::unnumbered();
     stretches::tables();
-    ranges::refusals();
+    stretches::refusals();
 }
