@@ -20,7 +20,7 @@ use Rattle.sheet.specs.Sheet.{streamRules, openRules, sheetStep, packageOf, ope
 use Rattle.sheet.proofs.Keyed.{sheet-width, sheet-sized, sheet-cut}
 use Rattle.sheet.proofs.Laws.{open-answer, package-front}
 use Rattle.promises.specs.Words.{writtenPart}
-use Rattle.promises.specs.BlockLaw.{Linked, Agree, BlockLaw}
+use Rattle.promises.specs.BlockLaw.{blockAt, Agree, BlockLaw}
 use Rattle.promises.specs.Demand1.{openNumbers}
 use Rattle.promises.proofs.Ended.{call-wrote}
 use Rattle.promises.proofs.Demand1.{demand-1}
@@ -32,6 +32,13 @@ module _ (lock : Lock) (s out : List ℕ) where
 
   wrote-none : (opened lock s out .reply .answer ≡ 0 → ⊥) → writtenPart (opened lock s out) ≡ []
   wrote-none z = rw (demand-1 .opening lock s out .ends .refused z .none)
+
+-- where the blocks before block i agree, so does what the step is told of them
+pub before-alike : (lock : Lock) (size i j : ℕ) (s t : List ℕ) → j ≡ i → blockAt (i - 1) s ≡ blockAt (i - 1) t
+    → before (sheetStep lock size) j (drop 8 s) ≡ before (sheetStep lock size) j (drop 8 t)
+unfolding before
+before-alike lock size i zero s t q h = refl
+before-alike lock size i (suc j) s t q h = let k : i - 1 ≡ j = omega (arith, q) in rw (sheet-width lock size, ← k) h
 
 module _ (lock : Lock) (i : ℕ) (s t : List ℕ) (a : Agree (lock .scheme) i s t) where
   abbrev size : ℕ
@@ -46,17 +53,11 @@ module _ (lock : Lock) (i : ℕ) (s t : List ℕ) (a : Agree (lock .scheme) i s 
   sized : Sized step
   sized = sheet-sized lock size
 
-  -- the block before agrees wherever the step is chained to it
-  linked : (j : ℕ) → i ≡ j → Linked (lock .scheme) size i → before step j (drop 8 s) ≡ before step j (drop 8 t)
-  unfolding before
-  linked zero e l = refl
-  linked (suc j) e l = let k : i - 1 ≡ j = omega arith in rw (width, ← k) (a .before l)
-
   joint : Starts step i ⊎ (before step i (drop 8 s) ≡ before step i (drop 8 t))
   joint =
       elim (sheet-cut lock size i) [
         | inl b ↦ inl b
-        | inr b ↦ inr (linked i refl b)
+        | inr b ↦ inr (before-alike lock size i i s t refl (a .before b))
       ]
 
   -- behind n units there is none

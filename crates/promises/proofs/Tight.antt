@@ -31,6 +31,7 @@ use Rattle.stretch.proofs.Laws.{Reachable, reachable-opens, stretch-zero, slice
 use Rattle.promises.specs.Words.{Accepted, writtenPart}
 use Rattle.promises.specs.BlockLaw.{blockAt, Linked}
 use Rattle.promises.specs.Stretch.{Counting, Elsewhere, Unlike, Tight}
+use Rattle.promises.proofs.BlockLaw.{before-alike}
 use Rattle.promises.proofs.Stretch.{stretch-wrote, stretch-accepted}
 
 -- ---- another byte elsewhere
@@ -168,12 +169,7 @@ module _ (lock : Lock) (s t : List ℕ) (i : ℕ) (out : List ℕ) (long : lengt
   before-long zero q x h = sheet-reverses lock (streamSize s) .first .long ∙ sheet-width lock (streamSize s)
   before-long (suc j) q x h = rw (sheet-width lock (streamSize s)) (length-unit 16 j (drop 8 x) (omega (arith, q, h, there)))
 
-  -- the block before, by the step
-  before-same : (j : ℕ) → j ≡ i → blockAt (i - 1) s ≡ blockAt (i - 1) t → before step j (drop 8 s) ≡ before step j (drop 8 t)
-  unfolding before
-  before-same zero q h = refl
-  before-same (suc j) q h = let k : i - 1 ≡ j = omega (arith, q) in rw (sheet-width lock (streamSize s), ← k) h
-
+  -- what the step is told of the block before tells the block
   same-before : (j : ℕ) → j ≡ i → blockAt i s ≡ blockAt i t → before step j (drop 8 s) ≡ before step j (drop 8 t) → blockAt (i - 1) s ≡ blockAt (i - 1) t
   unfolding before
   same-before zero q b h = let k : i - 1 ≡ i = omega (arith, q) in rw k b
@@ -191,7 +187,7 @@ module _ (lock : Lock) (s t : List ℕ) (i : ℕ) (out : List ℕ) (long : lengt
       sealed-again (before step i (drop 8 t)) (before-long i refl t (sym lengths))
       (elim (sheet-cut lock (streamSize s) i) [
         | inl b ↦ b .alike _ _ _ ∙ same-block
-        | inr b ↦ ap (λ (p : List ℕ). step .back i p (unit 16 i (drop 8 s))) (sym (before-same i refl (h b))) ∙ same-block
+        | inr b ↦ ap (λ (p : List ℕ). step .back i p (unit 16 i (drop 8 s))) (sym (before-alike lock (streamSize s) i i s t refl (h b))) ∙ same-block
       ])
 
   pub before-told : Linked (lock .scheme) (streamSize s) i → blockAt i s ≡ blockAt i t → blockAt (i - 1) s ≡ blockAt (i - 1) t
