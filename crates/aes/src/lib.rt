@@ -13,6 +13,9 @@
 //
 // A stream expands its key once; `aes_stream` has the ciphers for it. `aes_rounds::cipher` and `aes_rounds::inv_cipher` do a lone
 // block's work: the one doubles, the other lays the shares of `products`, and neither mixes a key.
+
+#![tactic(auto)]
+
 ghost use Rattle.std.specs.Prelude.{◌≡◌};
 ghost use Rattle.aes.specs.Aes as Aes;
 

@@ -1,4 +1,7 @@
 // The steps of a round and the two ciphers (FIPS 197 5.1 and 5.3), under an expanded key and tables that are lent.
+
+#![tactic(auto)]
+
 ghost use Rattle.std.specs.Prelude.{◌≡◌, [], ◌∷◌, ◌++◌, map, ◌+◌, ◌*◌, ◌<◌, ◌≤◌, length};
 ghost use Rattle.fips197.specs.Tables as Tables;
 ghost use Rattle.fips197.specs.Cipher as Cipher;

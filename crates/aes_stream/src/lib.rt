@@ -13,6 +13,9 @@
 // ciphers that do without.
 //
 // Warning: as in `aes`, the time that a look-up takes can betray the byte to whoever shares the processor's cache.
+
+#![tactic(auto)]
+
 ghost use Rattle.std.specs.Prelude.{◌≡◌, ◌<◌, ◌≤◌, length};
 ghost use Rattle.fips197.specs.Tables as Tables;
 ghost use Rattle.fips197.specs.Cipher as Cipher;

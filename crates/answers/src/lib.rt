@@ -2,6 +2,9 @@
 //
 // What an entry answers is its first broken rule's number, or DONE where every rule holds: specs/Rules.antt has the ordered list,
 // specs/Ended.antt what a call leaves by its answer, proofs/ what follows from either.
+
+#![tactic(auto)]
+
 ghost use Rattle.std.specs.Prelude.{◌≡◌, cond, take};
 ghost use Rattle.octets.specs.Octets.{zero_from};
 ghost use Rattle.answers.specs.Rules.{first_of, after, room_rules};

@@ -1,10 +1,13 @@
 // What `make bench` measures, for C to call: each function does its work once, and answers a number that depends on it.
+
+#![tactic(auto)]
+
 mod blocks;
 
 // The first eight bytes of a hash, as a number.
 #[unsafe(no_mangle)]
 pub extern "C" fn bench_sha1(message: &[u8]) -> u64 {
-    let h = sha1::digest(message);
+    let h = sha1_digest::digest(message);
     let bytes = h.bytes;
     octets::le64(&bytes, 0)
 }

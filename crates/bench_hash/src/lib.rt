@@ -1,9 +1,11 @@
 // SHA-1 by itself for `make bench`, as a program has it that hashes and does nothing else.
 
+#![tactic(auto)]
+
 // The first eight bytes of a hash, as a number.
 #[unsafe(no_mangle)]
 pub extern "C" fn bench_hash(message: &[u8]) -> u64 {
-    let h = sha1::digest(message);
+    let h = sha1_digest::digest(message);
     let bytes = h.bytes;
     octets::le64(&bytes, 0)
 }

@@ -5,6 +5,9 @@
 //
 // The key comes expanded. It is copied once a stream, the tables are laid once, and both are lent to each block. A contract says which
 // bytes of the output are written and with what; the rest of it is as it was.
+
+#![tactic(auto)]
+
 ghost use Rattle.std.specs.Prelude.{◌≡◌, ◌++◌, ◌+◌, ◌*◌, ◌/◌, ◌%◌, ◌^◌, ◌<◌, ◌≤◌, min, length, take, drop};
 ghost use Rattle.std.proofs.Math.Seq.{paste};
 ghost use Rattle.fips197.specs.Tables.{sbox, inv_sbox};

@@ -10,13 +10,13 @@ use answers::Reply;
 use descriptor::{BitCount, Parsed};
 use files::There;
 use rescue::Rescued;
-use sha1::Hashed;
+use sha1_digest::Hashed;
 
 // SHA-1 of a message.
 pub fn digest(message: &[u8]) -> Hashed
     ensures { Calls.Hashing message.now result }
 {
-    sha1::digest(message)
+    sha1_digest::digest(message)
 }
 
 // A block encrypted.

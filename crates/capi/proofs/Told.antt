@@ -7,7 +7,7 @@ use native.Mathlib.Omega.{arith}
 use lib.ListN.{length, replicate}
 use Rattle.answers.specs.Ended as Ended
 use Rattle.answers.specs.declared.Reply.{Reply}
-use Rattle.sha1.specs.Sha1 as Sha1
+use Rattle.sha1_digest.specs.Sha1 as Sha1
 use Rattle.aes.specs.Aes as Aes
 use Rattle.descriptor.specs.Info as Info
 use Rattle.descriptor.proofs.Laws.{Parses, parse_numbers_lem, parsed_answer, parsed_fields}

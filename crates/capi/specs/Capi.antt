@@ -2,7 +2,7 @@
 -- definitions of the crates below and by how values cross. Assumes nothing.
 use Rattle.std.specs.Prelude.{List, [], ◌∷◌, ℕ, zero, suc, get_or}
 use Rattle.answers.specs.Ended as Ended
-use Rattle.sha1.specs.Sha1 as Sha1
+use Rattle.sha1_digest.specs.Sha1 as Sha1
 use Rattle.aes.specs.Aes as Aes
 use Rattle.aes.specs.declared.Reply.{Reply}
 use Rattle.descriptor.specs.Info as Info

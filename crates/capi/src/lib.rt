@@ -11,6 +11,9 @@
 // `uint64_t`. Sixteen bytes by value are two numbers, the first eight bytes and then the last, each low byte first.
 //
 // Nothing checks what C passes: include/ropeshadow.h has what a caller owes.
+
+#![tactic(auto)]
+
 ghost use Rattle.std.specs.Prelude.{◌≡◌};
 ghost use Rattle.password.specs.Lock.{lock_of};
 ghost use Rattle.capi.specs.Capi as Capi;
@@ -23,7 +26,7 @@ use aes::Reply;
 pub extern "C" fn ropeshadow_sha1(message: &[u8], out: &mut [u8; 20]) -> u64
     ensures { outcome result out.new ≡ Capi.hash_outcome message.now out.old }
 {
-    let h = sha1::digest(message);
+    let h = sha1_digest::digest(message);
     if h.answer == answers::DONE {
         let bytes = h.bytes;
         *out = bytes;

@@ -1,5 +1,8 @@
 // The cases of 01 that are run and not proved: a line each, which the gate compares with the file stdout. Each reply from 1 to 16, and
 // 19 and 20, is given once where a later rule is broken too, so that the order shows; a refused call shows its buffer as it was.
+
+#![tactic(auto)]
+
 mod chained;
 mod extra;
 mod info;

@@ -13,7 +13,7 @@ pub fn left(reply: answers::Reply, out: &[u8]) {
         lines::hex(out);
     } else {
         lines::text(b" SHA-1 of out ");
-        let hash = sha1::digest(out).bytes;
+        let hash = sha1_digest::digest(out).bytes;
         lines::hex(&hash);
     }
     lines::text(b"\n");

@@ -7,7 +7,7 @@ use lib.ListN.{length, length-append}
 use lib.Seq.{length-take-le}
 use Rattle.octets.specs.Octets.{Bytes}
 use Rattle.octets.proofs.Below.{append_below, take_below}
-use Rattle.sha1.proofs.Laws.{length_sha1, sha1_bytes}
+use Rattle.sha1_digest.proofs.Laws.{length_sha1, sha1_bytes}
 use Rattle.derivation.specs.Key as Key
 
 pub length_material : (salt p : List ℕ) → length (Key.material salt p) ≡ 40

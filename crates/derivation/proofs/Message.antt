@@ -11,8 +11,8 @@ use Rattle.octets.specs.Octets.{le_bytes}
 use Rattle.octets.proofs.Numbers.{length_le_bytes}
 use Rattle.octets.proofs.Parts.{paste_two, paste_whole}
 use Rattle.octets.proofs.Each.{length_each, each_all}
-use Rattle.sha1.specs.Sha1.{sha1}
-use Rattle.sha1.proofs.Laws.{length_sha1}
+use Rattle.sha1_digest.specs.Sha1.{sha1}
+use Rattle.sha1_digest.proofs.Laws.{length_sha1}
 use Rattle.derivation.specs.Key as Key
 
 -- ---- the password's bytes

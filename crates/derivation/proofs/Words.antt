@@ -8,7 +8,7 @@ use Rattle.octets.proofs.Below.{le_bytes_bytes}
 use Rattle.octets.proofs.Numbers.{be_bytes_be}
 use Rattle.octets.proofs.Each.{each_one, each_append}
 use Rattle.sha1_rounds.specs.declared.State.{State}
-use Rattle.sha1.specs.Sha1.{sha1, output, word_bytes}
+use Rattle.sha1_digest.specs.Sha1.{sha1, output, word_bytes}
 use Rattle.derivation.specs.Key.{turn, turns, block_hash}
 
 pub turns_more : (n : ℕ) (h : List ℕ) → turns (n + 1) h ≡ turn n (turns n h)

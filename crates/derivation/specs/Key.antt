@@ -3,7 +3,7 @@ use mathlib.Core.List.{List, ◌++◌, map, flat_map}
 use Rattle.std.specs.Prelude.{ℕ, zero, suc, ◌-◌, length, take, replicate}
 use Rattle.std.specs.Int.Bits.{bit_xor}
 use Rattle.octets.specs.Octets.{le_bytes}
-use Rattle.sha1.specs.Sha1.{sha1}
+use Rattle.sha1_digest.specs.Sha1.{sha1}
 
 -- two bytes a unit, low byte first, no mark and no terminator (000 4.1)
 abbrev pub unit_bytes : List ℕ → List ℕ

@@ -1,13 +1,13 @@
 // The key's bytes (000 4.1, 4.2, 5.1 and 5.2.2).
 ghost use Rattle.std.specs.Prelude.{◌≡◌, ◌++◌, ◌+◌, ◌*◌, ◌≤◌, ◌<◌, length, take};
-ghost use Rattle.sha1.specs.Sha1.{sha1, output};
+ghost use Rattle.sha1_digest.specs.Sha1.{sha1, output};
 ghost use Rattle.aes.specs.Aes.{expanded};
 ghost use Rattle.derivation.specs.Key as Key;
 
 use crate::turns;
 use aes::Expanded;
 use descriptor::ByteCount;
-use sha1::State;
+use sha1_digest::State;
 
 // Salt and password: two bytes a unit, low byte first, after the salt's sixteen.
 fn message(salt: [u8; 16], password: &[u16]) -> [u8; 526]
@@ -42,7 +42,7 @@ fn masked_hash(c: u8, b: [u8; 20]) -> [u8; 20]
     ensures { result ≡ sha1 (Key.masked c b) }
 {
     let m = masked(c, b);
-    sha1::output(sha1::hash(&m))
+    sha1_digest::output(sha1_digest::hash(&m))
 }
 
 // X then Y.
@@ -63,7 +63,7 @@ pub fn password_hash(salt: [u8; 16], password: &[u16]) -> State
     ensures { output result ≡ Key.password_hash salt password.now }
 {
     let m = message(salt, password);
-    turns::spun(sha1::hash(&m[..16 + 2 * password.len()]))
+    turns::spun(sha1_digest::hash(&m[..16 + 2 * password.len()]))
 }
 
 // The forty bytes of which a key of any size is the first.
@@ -71,7 +71,7 @@ pub fn material(salt: [u8; 16], password: &[u16]) -> [u8; 40]
     requires { length password.now ≤ 255 }
     ensures { result ≡ Key.material salt password.now }
 {
-    derived(sha1::output(turns::block_hash(0, password_hash(salt, password))))
+    derived(sha1_digest::output(turns::block_hash(0, password_hash(salt, password))))
 }
 
 // The key of so many bytes, expanded.

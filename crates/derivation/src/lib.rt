@@ -4,6 +4,9 @@
 //
 // A password is 16-bit units as they are: any unit, none of them special. Who calls asks first that there are at most 255
 // (`password::text_answer`).
+
+#![tactic(auto)]
+
 mod key;
 mod turns;
 

@@ -2,10 +2,10 @@
 // block: its sixteen words are made from these, with no buffer of bytes in between.
 ghost use Rattle.std.specs.Prelude.{◌≡◌};
 ghost use Rattle.octets.specs.Octets.{be, le_bytes};
-ghost use Rattle.sha1.specs.Sha1.{output, round_words};
+ghost use Rattle.sha1_digest.specs.Sha1.{output, round_words};
 ghost use Rattle.derivation.specs.Key.{turn, turns, spins, block_hash};
 
-use sha1::State;
+use sha1_digest::State;
 
 // A number's four bytes, low byte first, as the word that they make high byte first.
 fn swapped(i: u32) -> u32
@@ -22,14 +22,14 @@ fn next(k: &[u32; 4], i: u32, s: State) -> State
     requires { k.now ≡ round_words }
     ensures { output result ≡ turn i (output s) }
 {
-    sha1::six(k, swapped(i), s.a, s.b, s.c, s.d, s.e)
+    sha1_digest::six(k, swapped(i), s.a, s.b, s.c, s.d, s.e)
 }
 
 // All the turns.
 pub fn spun(s: State) -> State
     ensures { output result ≡ turns spins (output s) }
 {
-    let k = sha1::round_words();
+    let k = sha1_digest::round_words();
     let mut h = s;
     let mut i: u32 = 0;
     while i < 50000 {
@@ -43,6 +43,6 @@ pub fn spun(s: State) -> State
 pub fn block_hash(number: u32, s: State) -> State
     ensures { output result ≡ block_hash number (output s) }
 {
-    let k = sha1::round_words();
-    sha1::six(&k, s.a, s.b, s.c, s.d, s.e, swapped(number))
+    let k = sha1_digest::round_words();
+    sha1_digest::six(&k, s.a, s.b, s.c, s.d, s.e, swapped(number))
 }

@@ -6,6 +6,9 @@
 // Both Flags, ProviderType, the Reserved fields, the name's text and the opaque bytes after it are not judged. The verifier's place
 // comes from HeaderSize alone, never from the name's text. By which scheme the package's blocks go together stands nowhere in the file:
 // whoever asks says it, and it is judged last and kept with the fields.
+
+#![tactic(auto)]
+
 ghost use Rattle.std.specs.Prelude.{◌≡◌, ◌/◌};
 ghost use Rattle.answers.specs.Rules.{first_of};
 ghost use Rattle.descriptor.specs.Info as stream;

@@ -1,5 +1,8 @@
 // Opens the program's three files, given as bytes (01, no. 17 and "The program reads the files .."): rule 17 before every other, the
 // password file as units, then what `sheet` opens. Reading, writing and printing stand above it, in `program`: nothing here calls out.
+
+#![tactic(auto)]
+
 ghost use Rattle.std.specs.Prelude.{◌≡◌, ◌*◌, ◌/◌, ◌≤◌, length, take};
 ghost use Rattle.answers.specs.Rules.{first_of};
 ghost use Rattle.answers.specs.Ended.{left};

@@ -3,6 +3,9 @@
 //
 //     let size = lengths::stream_size(stream);
 //     let a = lengths::stream_answer(stream.len(), size);
+
+#![tactic(auto)]
+
 ghost use Rattle.std.specs.Prelude.{◌≡◌, not, ◌-◌, ◌≤◌};
 ghost use Rattle.answers.specs.Rules.{first_of};
 ghost use Rattle.lengths.specs.Lengths as Lengths;

@@ -1,5 +1,8 @@
 // What the test programs print with: texts, numbers and bytes in hexadecimal, on standard output. No contract can say what is
 // printed; the gate compares it with each program's file stdout.
+
+#![tactic(auto)]
+
 ghost use Rattle.std.specs.Prelude.{◌<◌};
 
 use libc::STDOUT_FILENO;

@@ -2,6 +2,9 @@
 // numbers are little-endian; FIPS 180-4 3.1: the words of a hash are big-endian).
 //
 // The reads low byte first are total: a byte past the end counts as 0, so a caller needs no test before it reads.
+
+#![tactic(auto)]
+
 ghost use Rattle.std.specs.Prelude.{◌≡◌, [], ◌∷◌, ◌+◌, ◌^◌, ◌≤◌, ◌<◌, length, get_or, take, drop};
 ghost use Rattle.std.proofs.Math.Seq.{paste};
 ghost use Rattle.octets.specs.Octets.{le_at, le_bytes, be_at, be_bytes, zero_from};

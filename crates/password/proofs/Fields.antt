@@ -10,8 +10,8 @@ use lib.Seq.{take_at, drop_at, length-take-le}
 use Rattle.octets.specs.Octets.{Bytes, same}
 use Rattle.octets.proofs.Below.{append_below, take_below, drop_below}
 use Rattle.octets.proofs.Equal.{same_self}
-use Rattle.sha1.specs.Sha1.{sha1}
-use Rattle.sha1.proofs.Laws.{length_sha1, sha1_bytes}
+use Rattle.sha1_digest.specs.Sha1.{sha1}
+use Rattle.sha1_digest.proofs.Laws.{length_sha1, sha1_bytes}
 use Rattle.steps.specs.Steps.{whole}
 use Rattle.steps.proofs.Made.{length_seal_all}
 use Rattle.steps.proofs.Inverse.{opened_sealed, sealed_bytes}

@@ -2,7 +2,7 @@
 -- EncryptedVerifierHash, and opened to be compared. Any reversible operation will do. Assumes nothing.
 use Rattle.std.specs.Prelude.{Bool, List, ◌++◌, ℕ, take, drop}
 use Rattle.octets.specs.Octets.{same}
-use Rattle.sha1.specs.Sha1.{sha1}
+use Rattle.sha1_digest.specs.Sha1.{sha1}
 use Rattle.steps.specs.Steps.{open_all, seal_all}
 use Rattle.blocks.specs.Blocks.{ecb_under}
 

@@ -5,6 +5,9 @@
 //     if u.answer == answers::DONE { .. u.key, u.fields.salt .. }
 //
 // A password is 16-bit units as they are: any unit, none of them special, at most 255. The 50,000 turns are run once a call.
+
+#![tactic(auto)]
+
 ghost use Rattle.std.specs.Prelude.{◌≡◌};
 ghost use Rattle.answers.specs.Rules.{first_of};
 ghost use Rattle.password.specs.Lock.{lock_of};

@@ -46,6 +46,6 @@ pub fn matches(key: Expanded, verifier: [u8; 16], hash: [u8; 32]) -> bool
     ensures { (k : List ℕ) → key_length (length k) ≡ true → key ≡ expanded k → result ≡ Verifier.matches (Verifier.verifier_opening k) verifier hash }
 {
     let plain = opened(key, fields(verifier, hash));
-    let digest = sha1::output(sha1::hash(&plain[..16]));
+    let digest = sha1_digest::output(sha1_digest::hash(&plain[..16]));
     agree(digest, plain)
 }

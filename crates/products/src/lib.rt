@@ -3,6 +3,9 @@
 // any matrix (fips197/proofs/Shares.antt, `looked_up`).
 //
 // Lay the words once and lend them: laying copies the four tables.
+
+#![tactic(auto)]
+
 ghost use Rattle.std.specs.Prelude.{◌≡◌, ◌<◌, length, get_or};
 ghost use Rattle.fips197.specs.Products as Products;
 

@@ -3,6 +3,9 @@
 //
 // What the answer is, and every byte of the sheet, is proved in `files`. What stands here only moves bytes between it and the system,
 // and no contract can say which bytes were read, written or printed.
+
+#![tactic(auto)]
+
 mod input;
 mod output;
 

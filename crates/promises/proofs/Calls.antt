@@ -13,7 +13,7 @@ use Rattle.answers.specs.Rules.{OneOf, first_of, numbered, numbers}
 use Rattle.answers.proofs.Laws.{none_broken, both_zero, numbers_both, by_numbers, listed, listed_in}
 use Rattle.answers.proofs.Endings.{ended_answer}
 use Rattle.answers.specs.Ended.{Left}
-use Rattle.sha1.specs.Sha1.{hash_rules, hashed}
+use Rattle.sha1_digest.specs.Sha1.{hash_rules, hashed}
 use Rattle.aes.specs.Aes.{key_length, encryption, decryption, done_block, refused_block, encrypted, decrypted}
 use Rattle.descriptor.specs.Info.{parsed}
 use Rattle.password.specs.Verdict.{judged}

@@ -11,8 +11,8 @@ use lib.Seq.{slice}
 use Rattle.answers.specs.Rules.{Rule, AllHold, OneOf}
 use Rattle.answers.specs.Ended.{Left, left, reply}
 use Rattle.answers.specs.declared.Reply.{Reply}
-use Rattle.sha1.specs.Sha1.{sha1, hash_rules, hashed}
-use Rattle.sha1.specs.declared.Hashed.{Hashed}
+use Rattle.sha1_digest.specs.Sha1.{sha1, hash_rules, hashed}
+use Rattle.sha1_digest.specs.declared.Hashed.{Hashed}
 use Rattle.aes.specs.Aes.{encryption, decryption, encrypted, decrypted}
 use Rattle.aes.specs.declared.Reply as Aes
 use Rattle.descriptor.specs.Info.{parse_rules, described, parsed}

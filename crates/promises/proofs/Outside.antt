@@ -10,7 +10,7 @@ use lib.ListN.{length}
 use Rattle.answers.specs.Rules.{OneOf}
 use Rattle.answers.specs.Ended.{Left, left, reply}
 use Rattle.answers.specs.declared.Reply.{Reply}
-use Rattle.sha1.specs.Sha1.{sha1, hash_rules, hashed}
+use Rattle.sha1_digest.specs.Sha1.{sha1, hash_rules, hashed}
 use Rattle.aes.specs.Aes.{key_length, encryption, decryption, encrypted, decrypted}
 use Rattle.aes.specs.declared.Reply as Aes
 use Rattle.descriptor.specs.Info.{parse_rules, described, parsed}

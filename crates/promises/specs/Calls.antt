@@ -5,8 +5,8 @@ use Rattle.std.proofs.Math.Seq.{slice}
 use Rattle.answers.specs.Rules.{AllHold}
 use Rattle.answers.specs.Ended.{Left, left, gives}
 use Rattle.answers.specs.declared.Reply.{Reply}
-use Rattle.sha1.specs.Sha1.{sha1, hash_rules}
-use Rattle.sha1.specs.declared.Hashed.{Hashed}
+use Rattle.sha1_digest.specs.Sha1.{sha1, hash_rules}
+use Rattle.sha1_digest.specs.declared.Hashed.{Hashed}
 use Rattle.aes.specs.Aes.{key_length}
 use Rattle.aes.specs.declared.Reply as Aes
 use Rattle.descriptor.specs.Info.{parse_rules, described}

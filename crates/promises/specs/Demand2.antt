@@ -5,7 +5,7 @@ use Rattle.std.specs.Prelude.{◌≡◌, ◌↔◌, Bool, cond, List, ◌++◌, 
 use Rattle.octets.specs.Octets.{le_at, le_bytes}
 use Rattle.answers.specs.Rules.{AllHold}
 use Rattle.answers.specs.Ended.{Left, left, reply}
-use Rattle.sha1.specs.Sha1.{sha1}
+use Rattle.sha1_digest.specs.Sha1.{sha1}
 use Rattle.aes.specs.Aes.{encryption, decryption}
 use Rattle.steps.specs.Steps.{Step, open_all, seal_all}
 use Rattle.steps.specs.Ecb.{ecb}

@@ -2,8 +2,8 @@
 -- or leaves what 01 says ("The numbered replies"): an all-zero descriptor, hash or block, or the output as it was. Assumes nothing.
 use Rattle.std.specs.Prelude.{Bool, List, [], ◌∷◌, ℕ, replicate}
 use Rattle.answers.specs.Ended.{Left}
-use Rattle.sha1.specs.Sha1.{hashed}
-use Rattle.sha1.specs.declared.Hashed.{Hashed}
+use Rattle.sha1_digest.specs.Sha1.{hashed}
+use Rattle.sha1_digest.specs.declared.Hashed.{Hashed}
 use Rattle.aes.specs.Aes.{encrypted, decrypted}
 use Rattle.aes.specs.declared.Reply.{Reply}
 use Rattle.descriptor.specs.Info.{parsed}

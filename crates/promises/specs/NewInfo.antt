@@ -4,7 +4,7 @@
 use Rattle.std.specs.Prelude.{◌≡◌, ◌↔◌, List, [], ◌∷◌, ◌++◌, ℕ, ◌+◌, ◌/◌, ◌%◌, ◌≤◌, length, take, drop}
 use Rattle.answers.specs.Rules.{Rule, OneOf}
 use Rattle.answers.specs.Ended.{Left}
-use Rattle.sha1.specs.Sha1.{sha1}
+use Rattle.sha1_digest.specs.Sha1.{sha1}
 use Rattle.steps.specs.Steps.{seal_all}
 use Rattle.descriptor.specs.Info.{alg_id_of}
 use Rattle.derivation.specs.Key.{key_bytes}

@@ -3,3 +3,5 @@
 // order Words, Demand1 to Demand3, Cases, Possible, NewInfo, ExtraBlock, BlockLaw, Stretch, EveryCall, Calls. proofs/ proves it of the
 // definitions that the entries' contracts name, and shows that the promises leave nothing open, that wrong entries break them, and that
 // none of them holds for want of an instance. `calls` ties it to the code.
+
+#![tactic(auto)]

@@ -6,6 +6,9 @@
 //
 // A call says in full what it leaves, as `sheet::open` does, and refuses as it does, but for a ciphertext of another length (no. 15): on
 // answer 0 the recovered bytes and then zeros to the end of the output; on any other answer, size 0, no counts and the output as it was.
+
+#![tactic(auto)]
+
 ghost use Rattle.std.specs.Prelude.{◌≡◌, ◌-◌, ◌≤◌, length};
 ghost use Rattle.octets.specs.Octets.{zero_from};
 ghost use Rattle.answers.specs.Rules.{first_of};

@@ -1,5 +1,8 @@
 // What the test programs open and seal: an EncryptionInfo for each key size, with the usual provider name, the password "password"
 // and the verifier of 000 8.4. Test data, of which nothing is promised.
+
+#![tactic(auto)]
+
 ghost use Rattle.std.specs.Prelude.{◌+◌, ◌≤◌};
 
 // "password", in 16-bit units.

@@ -8,8 +8,8 @@ use lib.Seq.{paste, length-take-le}
 use Rattle.octets.specs.Octets.{Bytes, le_bytes}
 use Rattle.octets.proofs.Below.{take_below}
 use Rattle.octets.proofs.Filled.{none, more, more_le, whole}
-use Rattle.sha1.specs.Sha1.{sha1}
-use Rattle.sha1.proofs.Laws.{length_sha1, sha1_bytes}
+use Rattle.sha1_digest.specs.Sha1.{sha1}
+use Rattle.sha1_digest.proofs.Laws.{length_sha1, sha1_bytes}
 use Rattle.segments.specs.Start.{start_of}
 
 module _ (salt : List ℕ) (number : ℕ) where

@@ -4,6 +4,9 @@
 //     if segments::begins(size, number) { .. segments::starting_vector(salt, number / 256) .. }
 //
 // How many segments there are follows from the package's size alone: an extra block past the last one belongs to it.
+
+#![tactic(auto)]
+
 ghost use Rattle.std.specs.Prelude.{◌≡◌, ◌≤◌, length};
 ghost use Rattle.std.proofs.Math.Seq.{paste};
 ghost use Rattle.octets.specs.Octets.{le_bytes};
@@ -25,7 +28,7 @@ pub fn starting_vector(salt: [u8; 16], number: u32) -> [u8; 16]
     let mut message = [0u8; 20];
     octets::copy(&salt, 0, 16, &mut message, 0);
     put_number(&mut message, number);
-    let digest = sha1::output(sha1::hash(&message));
+    let digest = sha1_digest::output(sha1_digest::hash(&message));
     octets::sixteen(&digest, 0)
 }
 

@@ -1,5 +1,8 @@
 // The compression of SHA-1: one block of sixteen words into the five that go from block to block (FIPS 180-4 6.1.2), by the message
 // schedule and eighty rounds. `sha1` stands above it, with whole messages.
+
+#![tactic(auto)]
+
 ghost use Rattle.std.specs.Prelude.{◌≡◌};
 ghost use Rattle.sha1_rounds.specs.Compression as fips;
 

@@ -9,6 +9,9 @@
 //
 // Warning: AES in ECB mode lets equal blocks be seen to be equal. Nothing here tells whether a stream was changed, nor whether it was
 // sealed under the other scheme: it opens to as many wrong bytes.
+
+#![tactic(auto)]
+
 ghost use Rattle.std.specs.Prelude.{◌≡◌};
 ghost use Rattle.answers.specs.Rules.{first_of};
 ghost use Rattle.answers.specs.Ended.{left};

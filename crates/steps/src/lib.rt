@@ -5,3 +5,5 @@
 // specs/ in the order Stream, Steps, Ecb, Chained, Needed, Feeding. proofs/ shows over any step what holds of every mode: lengths and units,
 // opening from any unit on, which units a unit or a stretch depends on, that sealing and opening undo each other, what a turn of a loop
 // adds, and that a stream in pieces gives the same however it is cut.
+
+#![tactic(auto)]

@@ -7,6 +7,9 @@
 //
 // A call says in full what it leaves, as `sheet::open` does: on answer 0 those bytes of the package and then zeros to the end of the
 // output; on any other answer, size 0 and the output as it was.
+
+#![tactic(auto)]
+
 ghost use Rattle.std.specs.Prelude.{◌≡◌, ◌+◌, ◌-◌, ◌*◌, ◌/◌, ◌%◌, ◌^◌, ◌≤◌, ◌<◌, min, length, drop};
 ghost use Rattle.std.proofs.Math.Seq.{paste};
 ghost use Rattle.answers.specs.Rules.{first_of};

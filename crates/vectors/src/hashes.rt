@@ -2,7 +2,7 @@
 
 // The answer and the hash of a message.
 fn hashed(message: &[u8]) {
-    let h = sha1::digest(message);
+    let h = sha1_digest::digest(message);
     lines::text(b": answer ");
     lines::number(h.answer as u64);
     lines::text(b" ");

@@ -2,9 +2,9 @@
 ghost use Rattle.std.specs.Prelude.{◌≤◌, length};
 
 // The words of a hash, as its bytes.
-fn hash(name: &[u8], s: sha1::State) {
+fn hash(name: &[u8], s: sha1_digest::State) {
     lines::text(name);
-    let bytes = sha1::output(s);
+    let bytes = sha1_digest::output(s);
     lines::hex(&bytes);
 }
 

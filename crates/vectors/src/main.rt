@@ -1,5 +1,8 @@
 // The published vectors, and inputs around the rules' edges, through the public entries: a line each, which the gate compares with
 // the file stdout and with what tests/second prints of its own.
+
+#![tactic(auto)]
+
 mod ciphers;
 mod hashes;
 mod keys;

@@ -14,8 +14,8 @@ use Rattle.answers.specs.Rules.{first_of}
 use Rattle.answers.specs.Ended.{left, ended}
 use Rattle.answers.specs.declared.Reply.{Reply}
 use Rattle.answers.proofs.Endings.{ended_reply, ended_out}
-use Rattle.sha1.specs.Sha1.{sha1}
-use Rattle.sha1.proofs.Laws.{length_sha1}
+use Rattle.sha1_digest.specs.Sha1.{sha1}
+use Rattle.sha1_digest.proofs.Laws.{length_sha1}
 use Rattle.aes.specs.Aes.{key_length, expanded}
 use Rattle.aes.specs.declared.Expanded.{Expanded}
 use Rattle.steps.specs.Steps.{seal_all}

@@ -7,6 +7,9 @@
 // other size 0 and the output as it was. The name is written as given: who wants a zero unit at its end gives one.
 //
 // Warning: salt, verifier and filling have to be random, and nothing here can tell whether they are.
+
+#![tactic(auto)]
+
 ghost use Rattle.std.specs.Prelude.{◌≡◌};
 ghost use Rattle.answers.specs.Rules.{first_of};
 ghost use Rattle.answers.specs.Ended.{left};

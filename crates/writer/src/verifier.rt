@@ -11,7 +11,7 @@ use aes::Expanded;
 fn plain(verifier: [u8; 16], filling: [u8; 12]) -> [u8; 48]
     ensures { result ≡ verifier_plain verifier filling }
 {
-    let digest = sha1::output(sha1::hash(&verifier));
+    let digest = sha1_digest::output(sha1_digest::hash(&verifier));
     let mut b = [0u8; 48];
     octets::copy(&verifier, 0, 16, &mut b, 0);
     octets::copy(&digest, 0, 20, &mut b, 16);

@@ -1,4 +1,7 @@
 // `unlock` on the sample sheet with a password that does not match.
+
+#![tactic(auto)]
+
 fn main() {
     program::run();
 }

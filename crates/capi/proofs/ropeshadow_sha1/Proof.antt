@@ -2,7 +2,7 @@
 use mathlib.Core.Path.{ap, ◌∙◌}
 use mathlib.Core.Logic.{⊎_elim, inl, inr}
 use borrow.Author.Rules.{rules}
-use Rattle.sha1.specs.declared.Hashed.{Hashed}
+use Rattle.sha1_digest.specs.declared.Hashed.{Hashed}
 use Rattle.capi.specs.Capi as Capi
 use Rattle.capi.proofs.Ended.{answered}
 use Rattle.capi.proofs.ropeshadow_sha1.Statement.{statement}

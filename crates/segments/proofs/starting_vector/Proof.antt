@@ -2,7 +2,7 @@
 use mathlib.Core.Path.{◌≡◌, ap, ◌∙◌}
 use borrow.Author.Rules.{rules}
 use lib.ListN.{length, take}
-use Rattle.sha1.specs.Sha1.{sha1}
+use Rattle.sha1_digest.specs.Sha1.{sha1}
 use Rattle.segments.specs.Start.{start_of}
 use Rattle.segments.proofs.Vectors.{message_laid}
 use Rattle.segments.proofs.starting_vector.Statement.{statement}

@@ -3,7 +3,7 @@ use mathlib.Core.Path.{◌≡◌, refl, sym, ap, ◌∙◌}
 use Prim.Native.Nat.{◌-◌, ◌≤◌}
 use native.Mathlib.Omega.{arith}
 use borrow.Author.Rules.{rules}
-use Rattle.sha1.specs.Sha1.{output}
+use Rattle.sha1_digest.specs.Sha1.{output}
 use Rattle.derivation.specs.Key.{turn, turns, spins}
 use Rattle.derivation.proofs.Words.{turns_more}
 use Rattle.derivation.proofs.turns.spun.Statement.{statement}
