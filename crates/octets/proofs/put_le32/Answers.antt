@@ -1,0 +1,9 @@
+-- Two halves, one after the other.
+use native.Mathlib.Omega.{arith}
+use Rattle.octets.proofs.Laid.{low_first}
+use Rattle.octets.proofs.put_le32.Goals as goal
+
+pub returns : goal.returns
+returns c =
+    let a = c.args in
+    low_first 2 2 a.v a.at a.d.now _ _ (omega arith) c.put_le16.ensures c.put_le16-2.ensures
