@@ -23,14 +23,14 @@ mod expansion;
 pub mod tables;
 
 // The round keys, 16 bytes each and zeros after the last, with the number of rounds.
-#[derive(Drop)]
+#[derive(Clone, Copy)]
 pub struct Expanded {
     pub bytes: [u8; 240],
     pub rounds: usize,
 }
 
 // What a block operation answers: 0 beside the block, or 8 beside zeros.
-#[derive(Drop)]
+#[derive(Clone, Copy)]
 pub struct Reply {
     pub answer: u16,
     pub block: [u8; 16],

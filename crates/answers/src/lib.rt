@@ -80,7 +80,7 @@ pub fn room_answer(room: usize, size: usize) -> u16
 }
 
 // What a call with an output answers: 0 beside the number of bytes written, or the first broken rule's number beside 0.
-#[derive(Drop)]
+#[derive(Clone, Copy)]
 pub struct Reply {
     pub answer: u16,
     pub size: usize,

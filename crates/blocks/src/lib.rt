@@ -21,7 +21,7 @@ use aes::{Expanded, tables};
 
 // How the blocks of a stream go together: each by itself, or chained in the segments of a package of so many bytes, which start from
 // vectors of the salt.
-#[derive(Drop)]
+#[derive(Clone, Copy)]
 pub struct Mode {
     pub chained: bool,
     pub salt: [u8; 16],
@@ -41,7 +41,7 @@ pub fn ecb() -> Mode
 }
 
 // Where a stream is taken up: the number of a block, and the cipher block before it.
-#[derive(Drop)]
+#[derive(Clone, Copy)]
 pub struct Place {
     pub number: usize,
     pub before: [u8; 16],

@@ -51,7 +51,7 @@ pub fn opened_and_sealed(
 }
 
 // What came of a new EncryptionInfo: the writer's reply, the parse of what it wrote, and the verdict on its password.
-#[derive(Drop)]
+#[derive(Clone, Copy)]
 pub struct Read {
     pub reply: Reply,
     pub parsed: Parsed,

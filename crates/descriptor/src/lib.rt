@@ -22,15 +22,15 @@ pub const ECB: u64 = 1;
 pub const CHAINED: u64 = 2;
 
 // A key's length as the file counts it. It is no count of bytes, and can't be used as one.
-#[derive(Drop)]
+#[derive(Clone, Copy)]
 pub struct BitCount(pub u32);
 
 // A key's length as everything but the file counts it.
-#[derive(Drop)]
+#[derive(Clone, Copy)]
 pub struct ByteCount(pub usize);
 
 // What an AlgID stands for: its key size and rounds, or refusal 6 with zeros.
-#[derive(Drop)]
+#[derive(Clone, Copy)]
 pub struct Suite {
     pub answer: u16,
     pub bits: BitCount,
@@ -38,7 +38,7 @@ pub struct Suite {
 }
 
 // The numbers of EncryptionInfo that are judged, as the file has them: bytes past its end count as 0.
-#[derive(Drop)]
+#[derive(Clone, Copy)]
 pub struct Numbers {
     // How many bytes EncryptionInfo has.
     pub length: usize,
@@ -57,7 +57,7 @@ pub struct Numbers {
 }
 
 // What EncryptionInfo says, and the scheme.
-#[derive(Drop)]
+#[derive(Clone, Copy)]
 pub struct Descriptor {
     pub major: u16,
     pub minor: u16,
@@ -73,7 +73,7 @@ pub struct Descriptor {
 }
 
 // An answer, and the descriptor where it is 0: zeros where it is not.
-#[derive(Drop)]
+#[derive(Clone, Copy)]
 pub struct Parsed {
     pub answer: u16,
     pub fields: Descriptor,

@@ -17,7 +17,7 @@ const LIMIT: usize = 65536;
 const UNITS: usize = 32768;
 
 // Which of the files could be read.
-#[derive(Drop)]
+#[derive(Clone, Copy)]
 pub struct There {
     pub info: bool,
     pub password: bool,

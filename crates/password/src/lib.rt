@@ -19,7 +19,7 @@ use aes::Expanded;
 use descriptor::{Descriptor, Parsed};
 
 // An answer and, where it is 0, the descriptor and the expanded key: zeros and no rounds where it is not.
-#[derive(Drop)]
+#[derive(Clone, Copy)]
 pub struct Unlocked {
     pub answer: u16,
     pub fields: Descriptor,

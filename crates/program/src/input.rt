@@ -6,7 +6,7 @@ ghost use Rattle.io.specs.Counts.{IsPrefixLen};
 pub const ROOM: usize = 65537;
 
 // What was found under a name: whether it could be read, and how many bytes.
-#[derive(Drop)]
+#[derive(Clone, Copy)]
 pub struct Found {
     pub there: bool,
     pub size: usize,

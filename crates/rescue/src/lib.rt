@@ -21,7 +21,7 @@ use answers::Reply;
 
 // What a rescue reports: the bytes of the package that were decrypted, the zeros for the rest of it, and the bytes of ciphertext past the
 // longest length that no. 15 allows. A last block that is cut counts in none of them.
-#[derive(Drop)]
+#[derive(Clone, Copy)]
 pub struct Counts {
     pub recovered: usize,
     pub zeroed: usize,
@@ -29,7 +29,7 @@ pub struct Counts {
 }
 
 // A reply beside the counts, which are 0 on a refusal.
-#[derive(Drop)]
+#[derive(Clone, Copy)]
 pub struct Rescued {
     pub reply: Reply,
     pub counts: Counts,

@@ -21,7 +21,7 @@ pub use sha1_rounds::{State, round_words};
 pub use single::six;
 
 // An answer, and the hash where it is 0: zeros where it is not.
-#[derive(Drop)]
+#[derive(Clone, Copy)]
 pub struct Hashed {
     pub answer: u16,
     pub bytes: [u8; 20],

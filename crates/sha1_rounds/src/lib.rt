@@ -12,7 +12,7 @@ pub mod schedule;
 pub use rounds::round_words;
 
 // The five words that go from block to block (FIPS 180-4 6.1).
-#[derive(Drop)]
+#[derive(Clone, Copy)]
 pub struct State {
     pub a: u32,
     pub b: u32,
