@@ -35,7 +35,7 @@ use Rattle.sheet.proofs.Scheme.{step_width, step_sized, step_reverses, step_cut,
 module _ (lock : Lock) where
   pub key_bytes_lem : Bytes (sheet_key lock)
   unfolding sheet_key
-  key_bytes_lem = password.key-bytes (descriptor_of lock) lock.password
+  key_bytes_lem = password.key_bytes_lem (descriptor_of lock) lock.password
 
   -- ---- demand 3's instance of the frame
 
@@ -62,13 +62,13 @@ module _ (lock : Lock) where
     sheet_cut i =
         elim (step_cut (descriptor_of lock) (sheet_key lock) size i) [
           | inl b ↦ inl b
-          | inr b ↦ inr (sym (descriptor.scheme-given lock.info lock.scheme) ∙ b.0, b.1)
+          | inr b ↦ inr (sym (descriptor.scheme_given lock.info lock.scheme) ∙ b.0, b.1)
         ]
 
     pub sheet_tells : (i : ℕ) → lock.scheme ≡ 2 → begins size i ≡ false → (p q x : List ℕ) → length p ≡ 16 → length q ≡ 16
         → (sheet_step lock size).back i p x ≡ (sheet_step lock size).back i q x → p ≡ q
     unfolding sheet_step
-    sheet_tells i e = step_tells (descriptor_of lock) (sheet_key lock) size i (descriptor.scheme-given lock.info lock.scheme ∙ e)
+    sheet_tells i e = step_tells (descriptor_of lock) (sheet_key lock) size i (descriptor.scheme_given lock.info lock.scheme ∙ e)
 
     pub length_sealed : (s : List ℕ) → length (sealing lock size s) ≡ 16 * (length s / 16)
     unfolding sealing
@@ -99,11 +99,11 @@ module _ (lock : Lock) where
   module _ (v : judged lock ≡ 0) (u : Unlocked) (e : u ≡ unlocked lock) where
     key_fits : key_length (length (sheet_key lock)) ≡ true
     unfolding sheet_key
-    key_fits = password.key_fits (descriptor_of lock) lock.password (descriptor.well-formed lock.info lock.scheme (password.admitted lock v))
+    key_fits = password.key_fits (descriptor_of lock) lock.password (descriptor.well_formed lock.info lock.scheme (password.admitted lock v))
 
     is : u.key ≡ expanded (sheet_key lock)
     unfolding sheet_key
-    is = ap (λ (x : Unlocked). x.key) e ∙ password.unlocked-key lock v
+    is = ap (λ (x : Unlocked). x.key) e ∙ password.unlocked_key lock v
 
     pub rounds_known : (0 < u.key.rounds) × (u.key.rounds ≤ 14)
     rounds_known = subst⁻¹ (λ (x : Expanded). (0 < x.rounds) × (x.rounds ≤ 14)) is (expanded_rounds (sheet_key lock) key_fits)
@@ -113,5 +113,5 @@ module _ (lock : Lock) where
         → step_from p m u.key.bytes u.key.rounds ≡ sheet_step lock size
     unfolding sheet_step
     step_under m p size h s =
-        let d : u.fields ≡ descriptor_of lock = ap (λ (x : Unlocked). x.fields) e ∙ password.unlocked-fields lock v in
+        let d : u.fields ≡ descriptor_of lock = ap (λ (x : Unlocked). x.fields) e ∙ password.unlocked_fields lock v in
         mode_started (descriptor_of lock) (sheet_key lock) size key_fits u.key m p is (h ∙ ap (λ (x : Descriptor). mode_of x size) d) s

@@ -14,7 +14,7 @@ pub loop-t-preserved : goal.loop-t-preserved
 loop-t-preserved c =
     let l = c in
     let a = l.args in
-    (omega arith, (omega arith, λ x e. c.step-r.ensures ∙ ap (fips.step-r l.loop-t.t (get_or a.w.now l.loop-t.t 0)) (l.loop-t.invariant.1.1 x e) ∙ sym (rounds_more a.w.now l.loop-t.t x)))
+    (omega arith, (omega arith, λ x e. c.step-r.ensures ∙ ap (fips.step l.loop-t.t (get_or a.w.now l.loop-t.t 0)) (l.loop-t.invariant.1.1 x e) ∙ sym (rounds_more a.w.now l.loop-t.t x)))
 
 pub returns : goal.returns
 returns c =

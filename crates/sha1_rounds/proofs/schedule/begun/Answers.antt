@@ -12,7 +12,7 @@ pub loop-t-preserved : goal.loop-t-preserved
 loop-t-preserved c =
     let l = c in
     let m = l.args.m.now in
-    (omega arith, (rw length-set l.loop-t.invariant.1.0, words_more m l.loop-t.w-1 l.loop-t.t _ (omega arith) l.loop-t.invariant.1.1 (word_early m (take l.loop-t.t l.loop-t.w-1) l.loop-t.t (omega arith))))
+    (omega arith, (rw length-set l.loop-t.invariant.1.0, words_more m l.loop-t.w l.loop-t.t _ (omega arith) l.loop-t.invariant.1.1 (word_early m (take l.loop-t.t l.loop-t.w) l.loop-t.t (omega arith))))
 
 pub returns : goal.returns
 returns c =

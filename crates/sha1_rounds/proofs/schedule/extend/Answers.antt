@@ -23,4 +23,4 @@ pub returns : goal.returns
 returns c =
     let l = c in
     let e : l.loop-t.t ≡ l.args.to = omega arith in
-    (l.loop-t.invariant.1.1.0, λ m h. rw e at (l.loop-t.invariant.1.1.1 m h))
+    record { long = l.loop-t.invariant.1.1.0; by_index = λ m h. rw e at (l.loop-t.invariant.1.1.1 m h) }

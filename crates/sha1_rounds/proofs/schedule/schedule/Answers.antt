@@ -5,8 +5,8 @@ use Rattle.sha1_rounds.proofs.schedule.schedule.Goals as goal
 pub returns : goal.returns
 returns c =
     words_all _ c.begun-w.ensures.1
-    c.extend.ensures.1
-    c.extend-2.ensures.1
-    c.extend-3.ensures.1
-    c.extend-4.ensures.1
-    c.extend-4.ensures.0
+    c.extend.ensures.by_index
+    c.extend-2.ensures.by_index
+    c.extend-3.ensures.by_index
+    c.extend-4.ensures.by_index
+    c.extend-4.ensures.long
