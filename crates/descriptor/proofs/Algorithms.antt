@@ -76,7 +76,7 @@ row_of : (bits : ℕ) (xs : List Algorithm) → Rows xs → OneOf (map (λ x. x.
 row_of bits [] r o = absurd o
 row_of bits (x ∷ xs) r (inl e) =
     let k = r.0 in
-    rw e (record { few = k.few; named = rw k.by_bits k.named; low = rw k.by_bits k.low; suite_is = ap suite_of k.by_bits ∙ k.by-id ∙ rw k.rounds })
+    rw e (record { few = k.few; named = rw k.by_bits k.named; low = rw k.by_bits k.low; suite_is = ap suite_of k.by_bits ∙ k.by_id ∙ rw k.rounds })
 row_of bits (x ∷ xs) r (inr o) = row_of bits xs r.1 o
 
 pub key_row : (bits : ℕ) → OneOf (128 ∷ 192 ∷ 256 ∷ []) bits → KeyRow bits
