@@ -1,12 +1,11 @@
 -- The extra block where it is chosen and taken, the least filling on the two other ways; a size within the limit has room for either.
 use mathlib.Core.Path.{◌≡◌, sym, ap, ◌∙◌}
-use mathlib.Core.Logic.{⊎_elim}
 use Prim.Native.Nat.{◌+◌}
 use native.Mathlib.Omega.{arith}
 use Rattle.lengths.specs.Lengths.{package_limit, least, filling_for, rounded}
 use Rattle.lengths.proofs.Fillings.{without, untaken, taken}
 use Rattle.lengths.proofs.rounded.Goals as goal
-use Rattle.lengths.proofs.rounded.Goals.{Joined-extra}
+use Rattle.lengths.proofs.rounded.Goals.{Joined-extra, then-extra+else-takes_extra, else-extra}
 
 pub overflow_add-result : goal.overflow_add-result
 unfolding package_limit
@@ -26,7 +25,10 @@ overflow_add-result-2 c = omega arith
 plain : (c : Joined-extra) → filling_for c.args.extra c.args.size ≡ least c.args.size
 plain c =
     let a = c.args in
-    ⊎_elim (λ w. untaken a.extra a.size (sym w.1.ensures ∙ w.2.left)) (λ w. rw w.left (without a.size)) c.if-extra.branch
+    elim c.if-extra.branch [
+      | then-extra+else-takes_extra w ↦ untaken a.extra a.size (sym w.takes_extra.ensures ∙ w.if-takes_extra.false)
+      | else-extra w ↦ rw w.if-extra.false (without a.size)
+    ]
 
 pub returns : goal.returns
 unfolding rounded least

@@ -6,12 +6,12 @@ use Rattle.sha1_digest.proofs.Padded.{ending_law}
 use Rattle.sha1_digest.proofs.padding.ending.Goals as goal
 
 pub put_be32-requires : goal.put_be32-requires
-put_be32-requires c = rw (length-set, c.copy.auto.1.1.1.0) (omega arith)
+put_be32-requires c = simp length-set (omega arith)
 
 pub returns : goal.returns
 returns c =
     let m = c.args.m.now in
     record {
-      long = c.put_be32.auto.0 ∙ rw length-set c.copy.auto.1.1.1.0;
-      begins = ending_law m c.copy.new.1.1.1.0 _ (omega arith) c.copy.ensures c.put_be32.ensures;
+      long = c.put_be32.auto.d ∙ rw length-set c.copy.auto.d;
+      begins = ending_law m c.copy.new.d _ (omega arith) c.copy.ensures c.put_be32.ensures;
     }

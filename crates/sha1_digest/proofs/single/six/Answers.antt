@@ -34,8 +34,8 @@ returns c =
     let begun = w in
     let g = begun in
     let words =
-    words_all _ begun.begun-w.ensures.1 w.extend.ensures.1
-    w.extend-2.ensures.1 w.extend-3.ensures.1 w.extend-4.ensures.1 w.extend-4.ensures.0 in
+    words_all _ begun.begun-w.ensures.1 w.extend.ensures.by_index
+    w.extend-2.ensures.by_index w.extend-3.ensures.by_index w.extend-4.ensures.by_index w.extend-4.ensures.long in
     let rounds = rounds_all _ first.span-first.ensures second.span-second.ensures third.span-third.ensures c.span.ensures in
     let a = g.args in
     let f = g.ranges in
