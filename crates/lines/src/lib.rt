@@ -5,16 +5,16 @@
 
 ghost use Rattle.std.specs.Prelude.{◌<◌};
 
-use libc::STDOUT_FILENO;
+use std::io;
 
 // A text as it is.
-pub fn text(s: &[u8]) {
-    io::write_all(STDOUT_FILENO, s);
+pub fn text(rt: &impl Print, s: &[u8]) -> io::Result<()> {
+    rt.write_all(s)
 }
 
 // A number in decimal.
-pub fn number(n: u64) {
-    io::print_decimal(STDOUT_FILENO, n);
+pub fn number(rt: &impl Print, n: u64) -> io::Result<()> {
+    print!(rt; "{n}")
 }
 
 // A hexadecimal digit.
@@ -25,22 +25,21 @@ fn digit(n: u8) -> u8
 }
 
 // A byte in two hexadecimal digits.
-fn byte(b: u8) {
-    text(&[digit(b / 16), digit(b % 16)]);
+fn byte(rt: &impl Print, b: u8) -> io::Result<()> {
+    text(rt, &[digit(b / 16), digit(b % 16)])
 }
 
 // The bytes of s from `from` up to `to`, in hexadecimal; what is past the end is left out.
-pub fn part(s: &[u8], from: usize, to: usize) {
-    let mut i = from;
-    while i < to {
+pub fn part(rt: &impl Print, s: &[u8], from: usize, to: usize) -> io::Result<()> {
+    for i in from..to {
         if i < s.len() {
-            byte(s[i]);
+            byte(rt, s[i])?;
         }
-        i += 1;
     }
+    Ok(())
 }
 
 // Bytes in hexadecimal.
-pub fn hex(s: &[u8]) {
-    part(s, 0, s.len());
+pub fn hex(rt: &impl Print, s: &[u8]) -> io::Result<()> {
+    part(rt, s, 0, s.len())
 }
