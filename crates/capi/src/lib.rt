@@ -1,16 +1,9 @@
-// The outside interface: each part of 01's product as a function for C, on lent memory and numbers. It changes nothing but its `out`.
-//
-//     uint64_t word = ropeshadow_open(info, info_size, password, units, scheme, stream, stream_size, out, room);
-//     if (word % 65536 == 0) { .. the first word / 65536 bytes of out .. }
+// The outside interface: each part of 01's product as a function on lent memory and numbers. It changes nothing but its `out`.
+// The crate capi_c exports each to C under the same name, with the same clauses.
 //
 // Each returns one number, 01's answer + 65,536 x the size; the size is 0 but for a sheet opened, whole or a stretch of it, or sealed and
-// a descriptor written. With an answer other than 0 the size is 0 and `out` is as it was (specs/Capi.antt).
-//
-// To C a lent slice is two parameters, where it starts and how many elements it has: `&[u8]` is `const uint8_t *, size_t`, `&[u16]` is
-// `const uint16_t *, size_t`, `&mut [u8]` is `uint8_t *, size_t`. A `&mut [u8; 20]` is one, `uint8_t *`, to that many bytes; `u64` is
-// `uint64_t`. Sixteen bytes by value are two numbers, the first eight bytes and then the last, each low byte first.
-//
-// Nothing checks what C passes: include/ropeshadow.h has what a caller owes.
+// a descriptor written. With an answer other than 0 the size is 0 and `out` is as it was (specs/Capi.antt). Sixteen bytes by value are two
+// numbers, the first eight bytes and then the last, each low byte first.
 
 #![tactic(auto)]
 
@@ -22,8 +15,7 @@ ghost use Rattle.capi.specs.Capi.{outcome};
 use aes::Reply;
 
 // SHA-1 of a message.
-#[unsafe(no_mangle)]
-pub extern "C" fn ropeshadow_sha1(message: &[u8], out: &mut [u8; 20]) -> u64
+pub fn ropeshadow_sha1(message: &[u8], out: &mut [u8; 20]) -> u64
     ensures { outcome result out.new ≡ Capi.hash_outcome message.now out.old }
 {
     let h = sha1_digest::digest(message);
@@ -46,24 +38,21 @@ fn written(r: Reply, out: &mut [u8; 16]) -> u64
 }
 
 // A block encrypted under a key of 16, 24 or 32 bytes.
-#[unsafe(no_mangle)]
-pub extern "C" fn ropeshadow_aes_encrypt(key: &[u8], low: u64, high: u64, out: &mut [u8; 16]) -> u64
+pub fn ropeshadow_aes_encrypt(key: &[u8], low: u64, high: u64, out: &mut [u8; 16]) -> u64
     ensures { outcome result out.new ≡ Capi.encrypt_outcome key.now low high out.old }
 {
     written(aes::encrypt(key, crossing::sixteen(low, high)), out)
 }
 
 // A block decrypted under a key of 16, 24 or 32 bytes.
-#[unsafe(no_mangle)]
-pub extern "C" fn ropeshadow_aes_decrypt(key: &[u8], low: u64, high: u64, out: &mut [u8; 16]) -> u64
+pub fn ropeshadow_aes_decrypt(key: &[u8], low: u64, high: u64, out: &mut [u8; 16]) -> u64
     ensures { outcome result out.new ≡ Capi.decrypt_outcome key.now low high out.old }
 {
     written(aes::decrypt(key, crossing::sixteen(low, high)), out)
 }
 
 // The descriptor of EncryptionInfo, with the scheme.
-#[unsafe(no_mangle)]
-pub extern "C" fn ropeshadow_parse(info: &[u8], scheme: u64, out: &mut [u8; 88]) -> u64
+pub fn ropeshadow_parse(info: &[u8], scheme: u64, out: &mut [u8; 88]) -> u64
     ensures { outcome result out.new ≡ Capi.parse_outcome info.now scheme out.old }
 {
     let p = descriptor::parse(info, scheme);
@@ -75,16 +64,14 @@ pub extern "C" fn ropeshadow_parse(info: &[u8], scheme: u64, out: &mut [u8; 88])
 }
 
 // The verdict on a password.
-#[unsafe(no_mangle)]
-pub extern "C" fn ropeshadow_verdict(info: &[u8], password: &[u16], scheme: u64) -> u64
+pub fn ropeshadow_verdict(info: &[u8], password: &[u16], scheme: u64) -> u64
     ensures { result ≡ Capi.verdict_word (lock_of info.now password.now scheme) }
 {
     crossing::word(password::verdict(info, password, scheme), 0)
 }
 
 // A package stream opened into out.
-#[unsafe(no_mangle)]
-pub extern "C" fn ropeshadow_open(
+pub fn ropeshadow_open(
     info: &[u8],
     password: &[u16],
     scheme: u64,
@@ -98,8 +85,7 @@ pub extern "C" fn ropeshadow_open(
 }
 
 // The bytes of a package from one place up to, not including, another, opened into out.
-#[unsafe(no_mangle)]
-pub extern "C" fn ropeshadow_stretch(
+pub fn ropeshadow_stretch(
     info: &[u8],
     password: &[u16],
     scheme: u64,
@@ -115,8 +101,7 @@ pub extern "C" fn ropeshadow_stretch(
 }
 
 // What is there of a package stream that is cut or overlong, opened into out, with its counts: recovered, zeroed, surplus.
-#[unsafe(no_mangle)]
-pub extern "C" fn ropeshadow_rescue(
+pub fn ropeshadow_rescue(
     info: &[u8],
     password: &[u16],
     scheme: u64,
@@ -135,8 +120,7 @@ pub extern "C" fn ropeshadow_rescue(
 }
 
 // A package sealed into out, its last block filled with the first of sixteen bytes; `extra` other than 0 asks for an extra block.
-#[unsafe(no_mangle)]
-pub extern "C" fn ropeshadow_seal(
+pub fn ropeshadow_seal(
     info: &[u8],
     password: &[u16],
     scheme: u64,
@@ -154,8 +138,7 @@ pub extern "C" fn ropeshadow_seal(
 }
 
 // A new EncryptionInfo written into out, for a key of so many bits. Of the filling the first twelve bytes count.
-#[unsafe(no_mangle)]
-pub extern "C" fn ropeshadow_write_info(
+pub fn ropeshadow_write_info(
     bits: u64,
     password: &[u16],
     name: &[u8],
