@@ -43,7 +43,7 @@ overflow_sub-result c =
 pub overflow_sub-result-2 : goal.overflow_sub-result-2
 overflow_sub-result-2 c =
     let s = c in
-    omega (arith, size (goal.at.overflow_sub-result-2 c).Start, extra (goal.at.overflow_sub-result-2 c).Start, extra_fits _ (admitted (goal.at.sub-t11 c).Start))
+    omega (arith, size (goal.at.overflow_sub-result-2 c).Start, extra (goal.at.overflow_sub-result-2 c).Start, extra_fits _ (admitted (goal.at.overflow_sub-result-2 c).Start))
 
 pub returns : goal.returns
 unfolding stream.described stream.numbers_of stream.salt_of stream.encrypted_verifier stream.encrypted_verifier_hash
