@@ -14,7 +14,7 @@ returns c =
     let m = h in
     let st = m in
     let a = st.args in
-    let long : length a.t1 ≡ 16 = search rules in
+    let long : length a.salt ≡ 16 = search rules in
     c.sixteen.ensures
     ∙ ap (take 16) (c.output-digest.ensures ∙ h.hash.ensures
-    ∙ ap sha1 (message_laid a.t1 a.number _ _ long m.copy.ensures m.put_number.ensures))
+    ∙ ap sha1 (message_laid a.salt a.number _ _ long m.copy.ensures m.put_number.ensures))

@@ -1,0 +1,26 @@
+-- The three numbers of rounds go to the one cipher over any number.
+use mathlib.Core.Path.{refl, ◌∙◌}
+use Rattle.fips197.specs.Tables.{sbox}
+use Rattle.fips197.specs.Cipher.{cipher}
+use Rattle.aes.specs.Aes.{encrypted_by}
+use Rattle.aes.proofs.Keys.{within, answered, unanswered}
+use borrow.Author.Rules.{rules}
+use Rattle.aes.proofs.encrypt_block.Goals as goal
+
+pub cipher-requires : goal.cipher-requires
+unfolding sbox
+cipher-requires c =
+    let h = within c.args.key.rounds c.in-10.is in
+    (h.0, h.1, search rules, refl)
+
+pub returns-in-10 : goal.returns-in-10
+unfolding encrypted_by
+returns-in-10 c =
+    let st = c in
+    c.accepted.ensures ∙ answered cipher st.args.block st.args.key _ st.in-10.is c.cipher.ensures
+
+pub returns-in_default : goal.returns-in_default
+unfolding encrypted_by
+returns-in_default c =
+    let st = c in
+    unanswered cipher st.args.block st.args.key _ st.in_default.in_default-own.rest.1 c.refusal.ensures

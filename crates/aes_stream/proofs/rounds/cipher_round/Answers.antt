@@ -1,0 +1,20 @@
+-- Shifting the rows and substituting may change places.
+use mathlib.Core.Path.{ap, ◌∙◌}
+use mathlib.Core.List.{map}
+use borrow.Author.Rules.{rules}
+use Rattle.fips197.specs.Tables.{look, sbox}
+use Rattle.fips197.specs.Cipher as Cipher
+use Rattle.fips197.proofs.Equivalent.{by_round}
+use Rattle.aes_stream.proofs.rounds.cipher_round.Goals as goal
+
+pub round-requires : goal.round-requires
+round-requires c = let p = c.requires in (p.2.long, p.0, p.1)
+
+pub returns : goal.returns
+returns c =
+    let st = c in
+    let a = st.args in
+    let key = Cipher.round_key a.w.now in
+    c.round.ensures 2 3 1 1 (look sbox) st.requires.2
+    ∙ ap (λ u. Cipher.add_round_key (Cipher.columns (Cipher.row 2 3 1 1) (map (look sbox) u)) (key a.n)) c.shift_rows.ensures
+    ∙ by_round key a.n a.s (search rules)

@@ -1,0 +1,10 @@
+use mathlib.Core.Path.{◌≡◌}
+use Prim.Native.Nat.{◌-◌, ◌<◌, ◌≤◌}
+use Rattle.fips197.specs.Cipher as Cipher
+use Rattle.aes_stream.proofs.rounds.cipher_rounds.Given as goal
+
+abbrev pub invariant-loop-n : goal.invariant-loop-n
+invariant-loop-n l = (l.s ≡ Cipher.rounds (Cipher.round_key l.w) (l.n - 1) l.initial.s) × (0 < l.n) × (l.n ≤ l.rounds)
+
+abbrev pub decreases-loop-n : goal.decreases-loop-n
+decreases-loop-n l = l.rounds - l.n

@@ -1,0 +1,22 @@
+-- With its key mixed, a round may mix before it adds the key (FIPS 197 5.3.5).
+use mathlib.Core.Path.{ap₂, ◌∙◌}
+use mathlib.Core.List.{List, map}
+use Prim.Native.Nat.{ℕ}
+use native.Mathlib.Omega.{arith}
+use Rattle.fips197.specs.Tables.{look, inv_sbox}
+use Rattle.fips197.specs.Cipher as Cipher
+use Rattle.fips197.proofs.Equivalent.{by_inv_round}
+use Rattle.aes_stream.proofs.rounds.inv_cipher_round.Goals as goal
+
+pub round-requires : goal.round-requires
+round-requires c = let p = c.requires in (p.2.long, p.0, p.1)
+
+pub returns : goal.returns
+returns c =
+    λ w long keys.
+    let st = c in
+    let a = st.args in
+    c.round.ensures 14 11 13 9 (look inv_sbox) st.requires.2
+    ∙ ap₂ (λ (u k : List ℕ). Cipher.add_round_key (Cipher.columns (Cipher.row 14 11 13 9) (map (look inv_sbox) u)) (Cipher.round_key k a.n))
+    c.inv_shift_rows.ensures keys
+    ∙ by_inv_round w a.n a.s (omega arith)

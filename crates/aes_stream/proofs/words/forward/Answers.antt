@@ -1,0 +1,17 @@
+-- The shares of MixColumns, at the places of the substitution table.
+use mathlib.Core.Path.{ap, subst, subst⁻¹, ◌∙◌}
+use lib.ListN.{length}
+use Rattle.octets.specs.Octets.{Bytes}
+use Rattle.fips197.specs.Tables.{look}
+use Rattle.fips197.proofs.Entries.{length_sbox, sbox_bytes}
+use Rattle.aes_stream.specs.Words.{Rows}
+use Rattle.aes_stream.proofs.words.forward.Goals as goal
+
+pub substituted-requires : goal.substituted-requires
+substituted-requires c = (ap length c.requires ∙ length_sbox, c.shares-mix.ensures.long)
+
+pub returns : goal.returns
+returns c =
+    let p = c.requires in
+    subst (λ t. Rows 2 3 1 1 (look t) c.substituted.result) p
+    (c.substituted.ensures 2 3 1 1 (subst⁻¹ Bytes p sbox_bytes) c.shares-mix.ensures)
