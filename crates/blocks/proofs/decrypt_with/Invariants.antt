@@ -1,0 +1,16 @@
+use mathlib.Core.Path.{◌≡◌}
+use Prim.Native.Nat.{◌-◌, ◌/◌, ◌%◌, ◌≤◌, ◌<◌}
+use lib.ListN.{length}
+use lib.Seq.{paste}
+use Rattle.steps.specs.Steps.{before, open_all}
+use Rattle.blocks.specs.Blocks.{step_from}
+use Rattle.blocks.proofs.decrypt_with.Given as goal
+
+abbrev pub invariant-loop-i : goal.invariant-loop-i
+invariant-loop-i l =
+    (l.i ≤ l.size) × (l.i < l.size → l.i % 16 ≡ 0) × (length l.out ≡ length l.initial.out)
+    × (l.out ≡ paste l.initial.out 0 (open_all (step_from l.place l.mode l.w l.rounds) l.src) l.i)
+    × (l.i < l.size → l.before ≡ before (step_from l.place l.mode l.w l.rounds) (l.i / 16) l.src)
+
+abbrev pub decreases-loop-i : goal.decreases-loop-i
+decreases-loop-i l = l.size - l.i
