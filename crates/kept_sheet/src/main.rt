@@ -2,7 +2,9 @@
 
 #![tactic(auto)]
 
-fn main() {
-    program::run();
-    program::show_sheet();
+use std::io;
+
+fn main(rt: HostRuntime) -> io::Result<()> {
+    program::run(&rt)?;
+    program::show_sheet(&rt)
 }

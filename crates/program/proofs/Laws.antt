@@ -1,9 +1,5 @@
 -- Whichever files were read, what they open to lies within the output. Assumes nothing.
-use mathlib.Core.Path.{ap}
-use mathlib.Core.List.{List}
-use Prim.Native.Nat.{ℕ, ◌≤◌}
-use native.Mathlib.Omega.{arith}
-use lib.ListN.{length}
+use Rattle.std.proofs.Common.{List, ℕ, ◌≤◌, length, ap, arith}
 use Rattle.answers.specs.Ended.{Left}
 use Rattle.answers.specs.declared.Reply.{Reply}
 use Rattle.files.proofs.Laws.{size_within}

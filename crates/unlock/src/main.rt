@@ -2,6 +2,8 @@
 
 #![tactic(auto)]
 
-fn main() {
-    program::run();
+use std::io;
+
+fn main(rt: HostRuntime) -> io::Result<()> {
+    program::run(&rt)
 }
