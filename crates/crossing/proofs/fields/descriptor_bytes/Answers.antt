@@ -1,0 +1,23 @@
+-- The numbers, and each of the other fields right after the one before it.
+use borrow.Author.Rules.{rules}
+use Rattle.crossing.proofs.Laid.{fields_laid}
+use Rattle.crossing.proofs.fields.descriptor_bytes.Goals as goal
+
+pub copy-requires-2 : goal.copy-requires-2
+copy-requires-2 c = search rules
+
+pub copy-requires-3 : goal.copy-requires-3
+copy-requires-3 c = search rules
+
+pub copy-requires-4 : goal.copy-requires-4
+copy-requires-4 c = search rules
+
+pub returns : goal.returns
+returns c =
+    let fourth = c in
+    let third = fourth in
+    let second = third in
+    let first = second in
+    let numbers = first in
+    fields_laid numbers.args.d _ _ _ _ _ _ numbers.requires numbers.numbers-n.ensures
+    first.copy.ensures second.copy-2.ensures third.copy-3.ensures fourth.copy-4.ensures c.put_le32.ensures

@@ -1,0 +1,9 @@
+-- The first twelve of the sixteen.
+use Rattle.crossing.proofs.Laid.{twelve_laid}
+use Rattle.crossing.proofs.numbers.twelve.Goals as goal
+
+pub returns : goal.returns
+returns c =
+    let all = c in
+    let a = all.args in
+    twelve_laid a.low a.high _ _ all.sixteen-all.ensures c.copy.ensures
