@@ -3,25 +3,20 @@ use mathlib.Core.Path.{◌≡◌, refl, ◌∙◌}
 use mathlib.Core.List.{List}
 use Prim.Native.Nat.{ℕ, zero, suc, ◌+◌, ◌-◌, ◌*◌}
 use native.Mathlib.Omega.{arith}
-use borrow.Author.Rules.{rules}
 use lib.ListN.{take, drop}
 use lib.Seq.{drop-drop}
 use Rattle.steps.specs.Steps.{unit}
 use Rattle.stretch.specs.Stretch.{block_before}
-use Rattle.stretch.proofs.block_before.Statement.{statement}
-use Rattle.stretch.proofs.block_before.Tie as tie
+use Rattle.stretch.proofs.block_before.Goals as goal
 
 before_part : (i : ℕ) (s : List ℕ) → (i ≡ 0 → ⊥) → take 16 (drop (16 * i - 8) s) ≡ block_before (drop 8 s) i
 unfolding block_before unit
 before_part zero s h = absurd (h refl)
 before_part (suc i) s h = let e : 8 + 16 * i ≡ 16 * suc i - 8 = omega arith in rw (← e, drop-drop)
 
-returns : tie.Need-returns
+pub returns-then-number-eq0 : goal.returns-then-number-eq0
 unfolding block_before
-returns c = rw c.if1.true
+returns-then-number-eq0 c = rw c.if-number-eq0.true
 
-returns-2 : tie.Need-returns-2
-returns-2 c = c.sixteen.ensures ∙ before_part _ _ c.before.if1.false
-
-pub block_before_spec : {M : Type 1} → statement M
-block_before_spec = tie.close (tie.spec returns (λ c. search rules) (λ c. search rules) (λ c κs. search rules) returns-2)
+pub returns : goal.returns
+returns c = c.sixteen.ensures ∙ before_part _ _ c.if-number-eq0.false
