@@ -1,0 +1,17 @@
+-- The reply crosses as it is, its size fits, and what is written is made of the numbers given.
+use Rattle.capi.specs.Capi as Capi
+use Rattle.capi.proofs.Sizes.{write_held}
+use Rattle.capi.proofs.Ended.{write_crossed}
+use Rattle.capi.proofs.ropeshadow_write_info.Goals as goal
+
+pub word-requires : goal.word-requires
+word-requires c = write_held _ _ _ _ _ _ _ _ _ c.write_info-r.ensures
+
+pub returns : goal.returns
+unfolding Capi.write_outcome
+returns c =
+    let w = c in
+    let b = w in
+    let f = b in
+    let l = rw (b.bit_count.ensures, f.twelve-filling.ensures, f.sixteen-verifier.ensures, f.sixteen-salt.ensures) at w.write_info-r.ensures in
+    write_crossed _ _ _ _ _ _ _ _ _ _ c.word.ensures l
