@@ -1,0 +1,16 @@
+-- What the sealer ensures is the definition, of which the demands are proved.
+use mathlib.Core.Path.{◌≡◌, subst⁻¹}
+use borrow.Author.Rules.{rules}
+use lib.ListN.{length}
+use Rattle.promises.specs.Calls.{Sealing}
+use Rattle.promises.proofs.Calls.{sealing}
+use Rattle.calls.proofs.entries.seal.Goals as goal
+use Rattle.calls.proofs.entries.seal.Goals.{Start}
+
+sixteen : (c : Start) → length c.args.filling ≡ 16
+sixteen c = search rules
+
+pub returns : goal.returns
+returns c =
+    let s = c in
+    subst⁻¹ (Sealing _ _ _ _ _) s.seal.ensures (sealing _ _ _ _ _ (sixteen (goal.at.returns c).Start))

@@ -1,0 +1,7 @@
+-- What the function returns and leaves is the definition, which loses nothing.
+use Rattle.promises.specs.Calls.{BlockOut}
+use Rattle.promises.proofs.Outside.{carried, encrypt_out}
+use Rattle.calls.proofs.from_c.aes_encrypt.Goals as goal
+
+pub returns : goal.returns
+returns c = carried (BlockOut _ _ _ _) c.ropeshadow_aes_encrypt.ensures (encrypt_out _ _ _ _)

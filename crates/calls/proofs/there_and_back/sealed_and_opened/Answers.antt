@@ -1,0 +1,40 @@
+-- Where the sealing is refused nothing is opened; else what is opened is the stream that was sealed, and opens to the package.
+use mathlib.Core.Path.{◌≡◌, sym}
+use borrow.Author.Rules.{rules}
+use lib.ListN.{length, get_or}
+use lib.Seq.{length-take-le}
+use mir.Syntax.{w8}
+use mir.Val.{Fits}
+use Prim.Native.Nat.{ℕ}
+use Rattle.promises.proofs.ThereAndBack.{returned_refused, sealed_within, returned}
+use Rattle.calls.proofs.there_and_back.sealed_and_opened.Goals as goal
+use Rattle.calls.proofs.there_and_back.sealed_and_opened.Goals.{Start}
+
+sixteen : (c : Start) → length c.args.filling ≡ 16
+sixteen c = search rules
+
+byte : (c : Start) (i : ℕ) → Fits w8 (get_or c.args.filling i 0)
+byte c i = search rules
+
+pub returns-then-a-ne-DONE : goal.returns-then-a-ne-DONE
+returns-then-a-ne-DONE c =
+    let m = c in
+    returned_refused _ _ _ _ _ (sixteen (goal.at.returns-then-a-ne-DONE c).Start) _ _ m.seal-s.ensures _ c.if-a-ne-DONE.true
+
+pub slice_bounds-open-end : goal.slice_bounds-open-end
+slice_bounds-open-end c =
+    let m = c in
+    sealed_within _ _ _ _ _ (sixteen (goal.at.slice_bounds-open-end c).Start) _ _ m.seal-s.ensures c.if-a-ne-DONE.false
+
+pub slice_bounds-open-end-2 : goal.slice_bounds-open-end-2
+slice_bounds-open-end-2 c = sym (length-take-le _ _ (sealed_within _ _ _ _ _ (sixteen (goal.at.slice_bounds-open-end-2 c).Start) _ _ c.seal-s.ensures c.if-a-ne-DONE.false))
+
+pub returns : goal.returns
+returns c =
+    let o = c in
+    let e = o in
+    let m = e in
+    let known = m in
+    let s = known in
+    returned _ _ _ _ _ (sixteen (goal.at.returns c).Start) _ _ m.seal-s.ensures e.if-a-ne-DONE.false _
+    (record { at = λ i. (known.shared_slice_known-3-1.given i).fits }) (record { at = λ i. (byte (goal.at.returns c).Start i).fits }) _ _ o.«open».ensures
