@@ -2,11 +2,13 @@
 // as one makes, fewer or more. Every buffer is full of a5 before the call.
 use crate::sheets;
 use descriptor::ECB;
+use std::io;
 
 // The first n letters sealed with the choice, in a buffer of 48 bytes.
-fn ignored(what: &[u8], info: &[u8], n: usize) {
+fn ignored(rt: &impl Print, what: &[u8], info: &[u8], n: usize) -> io::Result<()> {
     let mut out = [0xa5u8; 48];
     sheets::seal(
+        rt,
         what,
         info,
         &samples::password(),
@@ -14,15 +16,17 @@ fn ignored(what: &[u8], info: &[u8], n: usize) {
         samples::front(b"abcdefghijklmnopq", n),
         true,
         &mut out,
-    );
+    )?;
+    Ok(())
 }
 
 // 4,096 bytes sealed with the choice take 4,120.
-fn cramped(info: &[u8]) {
+fn cramped(rt: &impl Print, info: &[u8]) -> io::Result<()> {
     let mut all = [0u8; 4096];
     samples::pattern(&mut all);
     let mut out = [0xa5u8; 4119];
     sheets::seal(
+        rt,
         b"4,096 bytes with an extra block, room one byte short",
         info,
         &samples::password(),
@@ -30,15 +34,16 @@ fn cramped(info: &[u8]) {
         &all,
         true,
         &mut out,
-    );
+    )?;
+    Ok(())
 }
 
-pub fn chosen() {
+pub fn chosen(rt: &impl Print) -> io::Result<()> {
     let info = samples::info_128();
-    ignored(b"17 bytes, extra block chosen and ignored", &info, 17);
-    ignored(b"16 bytes, extra block chosen and ignored", &info, 16);
-    ignored(b"0 bytes, extra block chosen and ignored", &info, 0);
-    cramped(&info);
+    ignored(rt, b"17 bytes, extra block chosen and ignored", &info, 17)?;
+    ignored(rt, b"16 bytes, extra block chosen and ignored", &info, 16)?;
+    ignored(rt, b"0 bytes, extra block chosen and ignored", &info, 0)?;
+    cramped(rt, &info)
 }
 
 // Zeros after a StreamSize, as many bytes as any stream here has.
@@ -49,62 +54,72 @@ pub fn zeros(size: u64) -> [u8; 4136] {
 }
 
 // The first n bytes of these, refused into a buffer of 16.
-fn refused(what: &[u8], info: &[u8], size: u64, n: usize) {
+fn refused(rt: &impl Print, what: &[u8], info: &[u8], size: u64, n: usize) -> io::Result<()> {
     let stream = zeros(size);
     let password = samples::password();
-    sheets::refused(what, info, &password, ECB, samples::front(&stream, n));
+    sheets::refused(rt, what, info, &password, ECB, samples::front(&stream, n))
 }
 
 // The one length besides the least that is opened, and then 16 a byte short.
-fn opened(info: &[u8]) {
+fn opened(rt: &impl Print, info: &[u8]) -> io::Result<()> {
     let password = samples::password();
     let all = zeros(4096);
     let stream = samples::front(&all, 4120);
     let mut out = [0xa5u8; 4096];
     sheets::open(
+        rt,
         b"an extra block at StreamSize 4,096",
         info,
         &password,
         ECB,
         stream,
         &mut out,
-    );
+    )?;
     let mut short = [0xa5u8; 4095];
     sheets::open(
+        rt,
         b"an extra block at StreamSize 4,096, room one byte short",
         info,
         &password,
         ECB,
         stream,
         &mut short,
-    );
+    )
 }
 
 // 15, with 16 broken too where StreamSize is above 16; and 14, with 15 broken too.
-fn disallowed(info: &[u8]) {
-    refused(b"two extra blocks at StreamSize 4,096", info, 4096, 4136);
-    refused(b"15 bytes more at StreamSize 4,096", info, 4096, 4119);
-    refused(b"17 bytes more at StreamSize 4,096", info, 4096, 4121);
-    refused(b"an extra block at StreamSize 0", info, 0, 24);
-    refused(b"an extra block at StreamSize 16", info, 16, 40);
-    refused(b"an extra block at StreamSize 17", info, 17, 56);
-    refused(b"an extra block at StreamSize 4,080", info, 4080, 4104);
+fn disallowed(rt: &impl Print, info: &[u8]) -> io::Result<()> {
     refused(
+        rt,
+        b"two extra blocks at StreamSize 4,096",
+        info,
+        4096,
+        4136,
+    )?;
+    refused(rt, b"15 bytes more at StreamSize 4,096", info, 4096, 4119)?;
+    refused(rt, b"17 bytes more at StreamSize 4,096", info, 4096, 4121)?;
+    refused(rt, b"an extra block at StreamSize 0", info, 0, 24)?;
+    refused(rt, b"an extra block at StreamSize 16", info, 16, 40)?;
+    refused(rt, b"an extra block at StreamSize 17", info, 17, 56)?;
+    refused(rt, b"an extra block at StreamSize 4,080", info, 4080, 4104)?;
+    refused(
+        rt,
         b"an extra block at StreamSize 2^32 + 4,096",
         info,
         4294971392,
         4120,
-    );
+    )?;
     refused(
+        rt,
         b"an extra block at StreamSize 268,439,552",
         info,
         268439552,
         4120,
-    );
+    )
 }
 
-pub fn lengthened() {
+pub fn lengthened(rt: &impl Print) -> io::Result<()> {
     let info = samples::info_128();
-    opened(&info);
-    disallowed(&info);
+    opened(rt, &info)?;
+    disallowed(rt, &info)
 }

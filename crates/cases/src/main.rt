@@ -11,21 +11,23 @@ mod sheets;
 mod stretches;
 mod writes;
 
-fn main() {
-    info::parses();
-    info::verdicts();
-    sheets::round_trips();
-    sheets::refusals();
-    extra::chosen();
-    extra::lengthened();
-    sheets::published();
-    writes::written();
-    writes::unwritten();
-    chained::round_trips();
-    chained::swaps();
-    chained::refusals();
-    chained::unnumbered();
-    stretches::tables();
-    stretches::refusals();
-    rescues::all();
+use std::io;
+
+fn main(rt: HostRuntime) -> io::Result<()> {
+    info::parses(&rt)?;
+    info::verdicts(&rt)?;
+    sheets::round_trips(&rt)?;
+    sheets::refusals(&rt)?;
+    extra::chosen(&rt)?;
+    extra::lengthened(&rt)?;
+    sheets::published(&rt)?;
+    writes::written(&rt)?;
+    writes::unwritten(&rt)?;
+    chained::round_trips(&rt)?;
+    chained::swaps(&rt)?;
+    chained::refusals(&rt)?;
+    chained::unnumbered(&rt)?;
+    stretches::tables(&rt)?;
+    stretches::refusals(&rt)?;
+    rescues::all(&rt)
 }

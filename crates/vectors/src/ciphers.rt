@@ -1,22 +1,23 @@
 // AES, a row to a vector: the keys and blocks of FIPS 197 with what it gives for them, and keys of other lengths, which are refused. A
 // line ends with what was expected where something else came out.
 use samples::front;
+use std::io;
 
 // A key's length, and what comes after it.
-fn key(n: usize, what: &[u8]) {
-    lines::text(b"aes key ");
-    lines::number(n as u64);
-    lines::text(what);
+fn key(rt: &impl Print, n: usize, what: &[u8]) -> io::Result<()> {
+    lines::text(rt, b"aes key ")?;
+    lines::number(rt, n as u64)?;
+    lines::text(rt, what)
 }
 
 // The bytes that came out, and those that should have, where they are others.
-fn ended(got: &[u8], expected: &[u8]) {
-    lines::hex(got);
+fn ended(rt: &impl Print, got: &[u8], expected: &[u8]) -> io::Result<()> {
+    lines::hex(rt, got)?;
     if !check::same(got, expected) {
-        lines::text(b", and not ");
-        lines::hex(expected);
+        lines::text(rt, b", and not ")?;
+        lines::hex(rt, expected)?;
     }
-    lines::text(b"\n");
+    lines::text(rt, b"\n")
 }
 
 // Round key n of an expanded key, or all of it where there is no such round.
@@ -29,55 +30,58 @@ fn round_key(w: &[u8], n: usize) -> &[u8] {
 }
 
 // The number of rounds and the last round key of an expanded key.
-fn expansion(k: &[u8], last: &[u8; 16]) {
+fn expansion(rt: &impl Print, k: &[u8], last: &[u8; 16]) -> io::Result<()> {
     let e = aes::expand(k);
     let bytes = e.bytes;
-    key(k.len(), b": rounds ");
-    lines::number(e.rounds as u64);
-    lines::text(b" last round key ");
-    ended(round_key(&bytes, e.rounds), last);
+    key(rt, k.len(), b": rounds ")?;
+    lines::number(rt, e.rounds as u64)?;
+    lines::text(rt, b" last round key ")?;
+    ended(rt, round_key(&bytes, e.rounds), last)
 }
 
 // An answer with its block.
-fn reply(r: aes::Reply, expected: &[u8; 16]) {
-    lines::number(r.answer as u64);
-    lines::text(b" ");
+fn reply(rt: &impl Print, r: aes::Reply, expected: &[u8; 16]) -> io::Result<()> {
+    lines::number(rt, r.answer as u64)?;
+    lines::text(rt, b" ")?;
     let block = r.block;
-    ended(&block, expected);
+    ended(rt, &block, expected)
 }
 
-fn encrypted(k: &[u8], block: [u8; 16], expected: &[u8; 16]) {
-    key(k.len(), b": encrypt answer ");
-    reply(aes::encrypt(k, block), expected);
+fn encrypted(rt: &impl Print, k: &[u8], block: [u8; 16], expected: &[u8; 16]) -> io::Result<()> {
+    key(rt, k.len(), b": encrypt answer ")?;
+    reply(rt, aes::encrypt(k, block), expected)
 }
 
-fn decrypted(k: &[u8], block: [u8; 16], expected: &[u8; 16]) {
-    key(k.len(), b": decrypt answer ");
-    reply(aes::decrypt(k, block), expected);
+fn decrypted(rt: &impl Print, k: &[u8], block: [u8; 16], expected: &[u8; 16]) -> io::Result<()> {
+    key(rt, k.len(), b": decrypt answer ")?;
+    reply(rt, aes::decrypt(k, block), expected)
 }
 
-fn both_ways(k: &[u8], plain: [u8; 16], sealed: [u8; 16]) {
-    encrypted(k, plain, &sealed);
-    decrypted(k, sealed, &plain);
+fn both_ways(rt: &impl Print, k: &[u8], plain: [u8; 16], sealed: [u8; 16]) -> io::Result<()> {
+    encrypted(rt, k, plain, &sealed)?;
+    decrypted(rt, k, sealed, &plain)
 }
 
 // Appendix A: a key and the last round key of its expansion.
-fn expansions() {
+fn expansions(rt: &impl Print) -> io::Result<()> {
     // A.1
     expansion(
+        rt,
         b"\x2b\x7e\x15\x16\x28\xae\xd2\xa6\xab\xf7\x15\x88\x09\xcf\x4f\x3c",
         b"\xd0\x14\xf9\xa8\xc9\xee\x25\x89\xe1\x3f\x0c\xc8\xb6\x63\x0c\xa6",
-    );
+    )?;
     // A.2
     expansion(
+        rt,
         b"\x8e\x73\xb0\xf7\xda\x0e\x64\x52\xc8\x10\xf3\x2b\x80\x90\x79\xe5\x62\xf8\xea\xd2\x52\x2c\x6b\x7b",
         b"\xe9\x8b\xa0\x6f\x44\x8c\x77\x3c\x8e\xcc\x72\x04\x01\x00\x22\x02",
-    );
+    )?;
     // A.3
     expansion(
+        rt,
         b"\x60\x3d\xeb\x10\x15\xca\x71\xbe\x2b\x73\xae\xf0\x85\x7d\x77\x81\x1f\x35\x2c\x07\x3b\x61\x08\xd7\x2d\x98\x10\xa3\x09\x14\xdf\xf4",
         b"\xfe\x48\x90\xd1\xe6\x18\x8d\x0b\x04\x6d\xf3\x44\x70\x6c\x63\x1e",
-    );
+    )
 }
 
 // Bytes that count up from 0: the keys of appendix C, and a byte more than the longest.
@@ -86,44 +90,47 @@ fn counted() -> [u8; 33] {
 }
 
 // Appendix C: one block under a key of each length.
-fn blocks() {
+fn blocks(rt: &impl Print) -> io::Result<()> {
     let keys = counted();
     let plain = samples::stepping();
     // C.1
     both_ways(
+        rt,
         front(&keys, 16),
         plain,
         *b"\x69\xc4\xe0\xd8\x6a\x7b\x04\x30\xd8\xcd\xb7\x80\x70\xb4\xc5\x5a",
-    );
+    )?;
     // C.2
     both_ways(
+        rt,
         front(&keys, 24),
         plain,
         *b"\xdd\xa9\x7c\xa4\x86\x4c\xdf\xe0\x6e\xaf\x70\xa0\xec\x0d\x71\x91",
-    );
+    )?;
     // C.3
     both_ways(
+        rt,
         front(&keys, 32),
         plain,
         *b"\x8e\xa2\xb7\xca\x51\x67\x45\xbf\xea\xfc\x49\x90\x4b\x49\x60\x89",
-    );
+    )
 }
 
 // No key of AES has so many bytes: zeros, with reply 8 of 01.
-fn refused(n: usize) {
+fn refused(rt: &impl Print, n: usize) -> io::Result<()> {
     let keys = counted();
     let k = front(&keys, n);
-    encrypted(k, samples::stepping(), &[0; 16]);
-    decrypted(k, samples::stepping(), &[0; 16]);
+    encrypted(rt, k, samples::stepping(), &[0; 16])?;
+    decrypted(rt, k, samples::stepping(), &[0; 16])
 }
 
-pub fn all() {
-    expansions();
-    blocks();
-    refused(0);
-    refused(15);
-    refused(17);
-    refused(23);
-    refused(31);
-    refused(33);
+pub fn all(rt: &impl Print) -> io::Result<()> {
+    expansions(rt)?;
+    blocks(rt)?;
+    refused(rt, 0)?;
+    refused(rt, 15)?;
+    refused(rt, 17)?;
+    refused(rt, 23)?;
+    refused(rt, 31)?;
+    refused(rt, 33)
 }

@@ -1,48 +1,50 @@
 // SHA-1: FIPS 180-4's examples that fit, and lengths at which the padding changes its shape.
+use std::io;
 
 // The answer and the hash of a message.
-fn hashed(message: &[u8]) {
+fn hashed(rt: &impl Print, message: &[u8]) -> io::Result<()> {
     let h = sha1_digest::digest(message);
-    lines::text(b": answer ");
-    lines::number(h.answer as u64);
-    lines::text(b" ");
+    lines::text(rt, b": answer ")?;
+    lines::number(rt, h.answer as u64)?;
+    lines::text(rt, b" ")?;
     let bytes = h.bytes;
-    lines::hex(&bytes);
-    lines::text(b"\n");
+    lines::hex(rt, &bytes)?;
+    lines::text(rt, b"\n")
 }
 
 // A message of its own.
-fn message(name: &[u8], m: &[u8]) {
-    lines::text(b"sha1 ");
-    lines::text(name);
-    hashed(m);
+fn message(rt: &impl Print, name: &[u8], m: &[u8]) -> io::Result<()> {
+    lines::text(rt, b"sha1 ")?;
+    lines::text(rt, name)?;
+    hashed(rt, m)
 }
 
 // The first n bytes of the pattern.
-fn patterned(s: &[u8], n: usize) {
-    lines::text(b"sha1 pattern ");
-    lines::number(n as u64);
-    hashed(samples::front(s, n));
+fn patterned(rt: &impl Print, s: &[u8], n: usize) -> io::Result<()> {
+    lines::text(rt, b"sha1 pattern ")?;
+    lines::number(rt, n as u64)?;
+    hashed(rt, samples::front(s, n))
 }
 
-pub fn all() {
-    message(b"empty", b"");
-    message(b"abc", b"abc");
+pub fn all(rt: &impl Print) -> io::Result<()> {
+    message(rt, b"empty", b"")?;
+    message(rt, b"abc", b"abc")?;
     message(
+        rt,
         b"two blocks",
         b"abcdbcdecdefdefgefghfghighijhijkijkljklmklmnlmnomnopnopq",
-    );
+    )?;
     let mut s = [0u8; 65537];
     samples::pattern(&mut s);
-    patterned(&s, 1);
-    patterned(&s, 55);
-    patterned(&s, 56);
-    patterned(&s, 63);
-    patterned(&s, 64);
-    patterned(&s, 65);
-    patterned(&s, 119);
-    patterned(&s, 120);
-    patterned(&s, 4096);
-    patterned(&s, 65536);
-    patterned(&s, 65537);
+    patterned(rt, &s, 1)?;
+    patterned(rt, &s, 55)?;
+    patterned(rt, &s, 56)?;
+    patterned(rt, &s, 63)?;
+    patterned(rt, &s, 64)?;
+    patterned(rt, &s, 65)?;
+    patterned(rt, &s, 119)?;
+    patterned(rt, &s, 120)?;
+    patterned(rt, &s, 4096)?;
+    patterned(rt, &s, 65536)?;
+    patterned(rt, &s, 65537)
 }

@@ -8,9 +8,11 @@ mod hashes;
 mod keys;
 mod starts;
 
-fn main() {
-    hashes::all();
-    ciphers::all();
-    keys::all();
-    starts::all();
+use std::io;
+
+fn main(rt: HostRuntime) -> io::Result<()> {
+    hashes::all(&rt)?;
+    ciphers::all(&rt)?;
+    keys::all(&rt)?;
+    starts::all(&rt)
 }
