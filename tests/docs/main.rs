@@ -1,8 +1,9 @@
-//! Whether docs/AUDIT.md and docs/ENTRIES.md say what is there: every name, must-fail edit and public function; and the header's
-//! answers. The pages say at their top how a name is written; a fault is one line, PAGE:LINE: what is wrong.
+//! Whether docs/AUDIT.md and docs/ENTRIES.md say what is there: every name, must-fail edit and public function; the header's answers; and
+//! whether what C calls is declared as the library is. The pages say at their top how a name is written; a fault is one line, PAGE:LINE: what is wrong.
 mod answers;
 mod antt;
 mod contract;
+mod exports;
 mod names;
 mod page;
 mod place;
@@ -58,6 +59,7 @@ fn main() {
     let edits = edits(&repo, &audit, &mut report);
     let functions = functions(&repo, &entries, &mut report);
     let answers = answers::check(&repo, &mut report);
+    exports::check(&repo, &mut report);
     specs::check(&repo, &mut report);
     for fault in &report.faults {
         eprintln!("{fault}");

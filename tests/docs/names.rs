@@ -5,7 +5,10 @@ use crate::{antt, contract, rattle, repo::Repo, Report};
 use std::collections::{BTreeMap, BTreeSet};
 
 /// The kit's libraries: a function of theirs is one that some crate calls.
-const KIT: [&str; 4] = ["std", "io", "os", "libc"];
+const KIT: [&str; 2] = ["std", "check"];
+
+/// A function's own proof files.
+const OF_FUNCTION: [&str; 3] = ["/Invariants.antt", "/Answers.antt", "/Proof.antt"];
 
 struct Page<'a> {
     repo: &'a Repo,
@@ -20,7 +23,7 @@ struct Page<'a> {
 
 fn declared(repo: &Repo) -> BTreeMap<String, Vec<String>> {
     let mut all: BTreeMap<String, Vec<String>> = BTreeMap::new();
-    for file in repo.files().filter(|f| !f.ends_with("/Proof.antt")) {
+    for file in repo.files().filter(|f| !OF_FUNCTION.iter().any(|own| f.ends_with(own))) {
         let text = repo.text(file);
         let names: Vec<String> = match file.rsplit_once('.') {
             Some((_, "antt")) => antt::declarations(text).into_iter().map(|d| d.name).collect(),
@@ -108,7 +111,7 @@ impl Page<'_> {
             if !place::in_header(self.repo, called(name)) {
                 return Some(Err(format!("include/ropeshadow.h has no `{}`", called(name))));
             }
-            return Some(if name.starts_with('R') { Ok(()) } else { self.item("capi", name) });
+            return Some(if name.starts_with('R') { Ok(()) } else { self.item("capi", name).and_then(|()| self.item("capi_c", name)) });
         }
         if name.contains('/') && !name.contains(' ') {
             return Some(if self.repo.resolve(name).is_some() { Ok(()) } else { Err(format!("there is no {name}")) });

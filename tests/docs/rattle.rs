@@ -19,7 +19,7 @@ impl Item {
     pub fn parameters(&self) -> Vec<&str> {
         let inside = self.head.split_once('(').map_or("", |(_, rest)| rest);
         let list = &inside[..closing(inside)];
-        list.split(',').filter_map(|p| p.split_once(':')).map(|(n, _)| n.trim()).collect()
+        list.split(',').filter_map(|p| p.split_once(':')).map(|(n, _)| n.trim().trim_start_matches("mut ")).collect()
     }
 
     pub fn result(&self) -> &str {
@@ -60,6 +60,14 @@ fn declaration(lines: &[&str]) -> String {
     head
 }
 
+/// What a line of `use` brings in, each name with its path: one, or those of a list in braces.
+fn brought(path: &str) -> Vec<(String, String)> {
+    let path = path.trim_end_matches(';');
+    let (module, last) = path.rsplit_once("::").unwrap_or(("", path));
+    let (module, list) = path.split_once("::{").map_or((module, last), |(module, list)| (module, list.trim_end_matches('}')));
+    list.split(',').map(|n| n.trim()).map(|n| (n.to_string(), format!("{module}::{n}"))).collect()
+}
+
 pub fn items(source: &str) -> Vec<Item> {
     let lines: Vec<&str> = source.lines().collect();
     let mut found = Vec::new();
@@ -73,8 +81,12 @@ pub fn items(source: &str) -> Vec<Item> {
         if !["fn", "const", "struct", "enum", "type", "use"].contains(&kind) || (kind == "use" && !public) {
             continue;
         }
-        let last = if kind == "use" { next.rsplit("::").next().unwrap_or(next) } else { next };
-        let name: String = last.chars().take_while(|c| c.is_alphanumeric() || *c == '_').collect();
+        if kind == "use" {
+            let (_, path) = line.split_once("use ").unwrap_or(("", line));
+            found.extend(brought(path).into_iter().map(|(name, head)| Item { name, kind: kind.to_string(), public, line: at + 1, head }));
+            continue;
+        }
+        let name: String = next.chars().take_while(|c| c.is_alphanumeric() || *c == '_').collect();
         let head = if kind == "fn" { declaration(&lines[at..]) } else { next.trim_end_matches(';').to_string() };
         found.push(Item { name, kind: kind.to_string(), public, line: at + 1, head });
     }

@@ -8,6 +8,9 @@ pub struct Repo {
     crates: Vec<String>,
 }
 
+/// What `rt` makes beside a crate's files.
+const MADE: &str = "out";
+
 /// The crate that a file under crates/ belongs to.
 pub fn crate_of(file: &str) -> &str {
     file.split('/').nth(1).unwrap_or("")
@@ -18,7 +21,9 @@ fn gather(folder: &Path, files: &mut BTreeMap<String, String>) {
     for entry in entries.flatten() {
         let path = entry.path();
         if path.is_dir() {
-            gather(&path, files);
+            if !path.ends_with(MADE) {
+                gather(&path, files);
+            }
         } else if let Ok(text) = fs::read_to_string(&path) {
             files.insert(path.to_string_lossy().into_owned(), text);
         }
@@ -36,7 +41,7 @@ impl Repo {
             files.insert(file.to_string(), fs::read_to_string(file).unwrap_or_default());
         }
         let listed = files["crates.txt"].lines().filter(|l| !l.starts_with('#'));
-        let crates = listed.filter_map(|l| l.split(':').next()).map(|n| n.trim().to_string()).filter(|n| !n.is_empty()).collect();
+        let crates = listed.filter_map(|l| l.split(':').next()?.split_whitespace().next()).map(|n| n.to_string()).collect();
         Repo { files, crates }
     }
 
@@ -72,7 +77,7 @@ impl Repo {
         sources.filter(|f| self.is_crate(crate_of(f)) && !self.is_program(crate_of(f))).collect()
     }
 
-    /// The file of a module, as crates/sha1/src/rounds.rt of sha1::rounds.
+    /// The file of a module, as crates/aes/src/tables.rt of aes::tables.
     pub fn module(&self, path: &str) -> Option<String> {
         let (name, below) = path.split_once("::").unwrap_or((path, ""));
         let file = match below {
