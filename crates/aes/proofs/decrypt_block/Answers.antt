@@ -10,18 +10,15 @@ use Rattle.aes.proofs.decrypt_block.Goals as goal
 pub inv_cipher-requires : goal.inv_cipher-requires
 unfolding inv_sbox
 inv_cipher-requires c =
-    let st = c in
-    let h = within st.args.key.rounds st.in-10.is in
+    let h = within c.args.key.rounds c.in-10.is in
     record { rounds_nonzero = (h.0, h.1, search rules); table_value = (refl, c.shares-shares.ensures) }
 
 pub returns-in-10 : goal.returns-in-10
 unfolding decrypted_by
 returns-in-10 c =
-    let st = c in
-    c.accepted.ensures ∙ answered inv_cipher st.args.block st.args.key _ st.in-10.is c.inv_cipher.ensures
+    c.accepted.ensures ∙ answered inv_cipher c.args.block c.args.key _ c.in-10.is c.inv_cipher.ensures
 
 pub returns-in_default : goal.returns-in_default
 unfolding decrypted_by
 returns-in_default c =
-    let st = c in
-    unanswered inv_cipher st.args.block st.args.key _ st.in_default.in_default-own.rest.1 c.refusal.ensures
+    unanswered inv_cipher c.args.block c.args.key _ c.in_default.in_default-own.rest.1 c.refusal.ensures

@@ -16,11 +16,9 @@ cipher-requires c =
 pub returns-in-10 : goal.returns-in-10
 unfolding encrypted_by
 returns-in-10 c =
-    let st = c in
-    c.accepted.ensures ∙ answered cipher st.args.block st.args.key _ st.in-10.is c.cipher.ensures
+    c.accepted.ensures ∙ answered cipher c.args.block c.args.key _ c.in-10.is c.cipher.ensures
 
 pub returns-in_default : goal.returns-in_default
 unfolding encrypted_by
 returns-in_default c =
-    let st = c in
-    unanswered cipher st.args.block st.args.key _ st.in_default.in_default-own.rest.1 c.refusal.ensures
+    unanswered cipher c.args.block c.args.key _ c.in_default.in_default-own.rest.1 c.refusal.ensures

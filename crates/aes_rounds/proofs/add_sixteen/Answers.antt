@@ -12,12 +12,10 @@ unfolding xor
 returns c =
     let l = c.eight-4.ensures in
     let y = c.eight-3.ensures in
-    let first = c in
-    let k = first.eight-2.ensures in
-    let x = first.eight.ensures in
-    let st = first in
-    let a = st.args in
-    let fit = st.requires in
+    let k = c.eight-2.ensures in
+    let x = c.eight.ensures in
+    let a = c.args in
+    let fit = c.requires in
     let size : length a.s ≡ 16 = search rules in
-    added a.s a.w.now first.put_le64.new.d c.put_le64-2.new.d a.n size (omega arith) x.1 k.1
-    (first.put_le64.ensures ∙ rw (x.0, k.0)) y.1 l.1 (c.put_le64-2.ensures ∙ rw (y.0, l.0))
+    added a.s a.w.now c.put_le64.new.d c.put_le64-2.new.d a.n size (omega arith) x.1 k.1
+    (c.put_le64.ensures ∙ rw (x.0, k.0)) y.1 l.1 (c.put_le64-2.ensures ∙ rw (y.0, l.0))

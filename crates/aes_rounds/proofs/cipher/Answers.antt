@@ -1,6 +1,5 @@
 -- After the turn of round n the state has gone through rounds 1 to n.
 use mathlib.Core.Path.{◌≡◌, refl, ap, ◌∙◌}
-use Prim.Native.Nat.{◌-◌}
 use native.Mathlib.Omega.{arith}
 use lib.ListN.{length}
 use Rattle.fips197.specs.Cipher as Cipher
@@ -25,14 +24,13 @@ pub returns : goal.returns
 unfolding Cipher.cipher Cipher.sub_bytes
 returns c =
     let at = c.loop-n in
-    let st = c in
-    let all : at.n ≡ st.args.rounds = omega arith in
+    let all : at.n ≡ c.args.rounds = omega arith in
     rw (
       c.add_round_key.ensures,
       c.shift_rows.ensures,
       c.sub_bytes.ensures,
       at.invariant.2,
       c.add_round_key-s.ensures,
-      st.requires.3,
+      c.requires.3,
       all,
     )

@@ -11,12 +11,11 @@ sub_bytes-requires c = ap length c.requires.mixed_value.1 ∙ length_inv_sbox
 pub returns : goal.returns
 unfolding inv_cipher inv_sub_bytes
 returns c =
-    let st = c in
     rw (
       c.add_round_key-2.ensures,
       c.sub_bytes.ensures,
       c.inv_shift_rows.ensures,
-      c.inv_cipher_rounds-s.ensures st.args.w.now st.requires.rounds_nonzero.2 st.requires.mixed_value.0,
+      c.inv_cipher_rounds-s.ensures c.args.w.now c.requires.rounds_nonzero.2 c.requires.mixed_value.0,
       c.add_round_key.ensures,
-      st.requires.mixed_value.1,
+      c.requires.mixed_value.1,
     )

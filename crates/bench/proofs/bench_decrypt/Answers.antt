@@ -14,8 +14,7 @@ inverse-words-requires c = (refl, c.shares-shares.ensures)
 
 pub mixed-mixed-requires : goal.mixed-mixed-requires
 mixed-mixed-requires c =
-    let s = c in
-    (ap (λ (x : Expanded). length x.bytes) s.expand-e.ensures ∙ length_expanded _, s.shares-shares.ensures)
+    (ap (λ (x : Expanded). length x.bytes) c.expand-e.ensures ∙ length_expanded _, c.shares-shares.ensures)
 
 pub decrypt-requires : goal.decrypt-requires
 unfolding inv_sbox

@@ -14,6 +14,5 @@ forward-words-requires c = refl
 pub encrypt-requires : goal.encrypt-requires
 unfolding sbox
 encrypt-requires c =
-    let f = c in
-    let e = f.expand-e in
-    (omega arith, omega arith, ap (λ (x : Expanded). length x.bytes) e.ensures ∙ length_expanded _, refl, f.forward-words.ensures)
+    let e = c.expand-e in
+    (omega arith, omega arith, ap (λ (x : Expanded). length x.bytes) e.ensures ∙ length_expanded _, refl, c.forward-words.ensures)

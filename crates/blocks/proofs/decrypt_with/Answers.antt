@@ -1,6 +1,6 @@
 -- Each turn lays one block more, or the part of the last one that is wanted; what lies past it is still the old buffer.
 use mathlib.Core.Path.{◌≡◌, refl, ◌∙◌}
-use Prim.Native.Nat.{suc, ◌+◌, ◌-◌, ◌*◌, ◌/◌, ◌%◌}
+use Prim.Native.Nat.{suc, ◌+◌, ◌*◌, ◌/◌, ◌%◌}
 use native.Mathlib.Omega.{arith}
 use lib.ListN.{length}
 use lib.Seq.{paste-zero}
@@ -32,25 +32,22 @@ pub loop-i-preserved : goal.loop-i-preserved
 unfolding open_all before unit step_by mode_step
 loop-i-preserved c =
     let o = c.copy in
-    let q = c in
-    let x = q.sixteen-block in
-    let t = q in
-    let l = t.loop-i in
-    let st = t in
-    let a = st.args in
-    let fit = st.requires.size_bound in
+    let x = c.sixteen-block in
+    let l = c.loop-i in
+    let a = c.args in
+    let fit = c.requires.size_bound in
     let k = l.i / 16 in
     let m = begins (goal.at.loop-i-preserved c).In-loop-i in
     let here : 16 * k ≡ l.i = omega arith in
-    let n = q.part-n.result in
+    let n = c.part-n.result in
     let step = step_from a.place a.mode a.w.now a.rounds in
     let ex : x.result ≡ unit 16 k a.src.now = x.ensures ∙ rw here in (
       omega arith,
       λ h. omega arith,
       o.auto.d ∙ l.invariant.2,
       open_turn step (from_sized a.mode a.w.now a.rounds a.place) (length a.src.now / 16) k l.i n 0 l.i
-          a.src.now a.out.now l.out o.new.d q.open_block-plain.result l.before x.result
-          (omega arith) here (omega arith) (omega arith) (omega arith) ex (l.invariant.4 t.loop-i-test.true) q.open_block-plain.ensures l.invariant.3 o.ensures,
+          a.src.now a.out.now l.out o.new.d c.open_block-plain.result l.before x.result
+          (omega arith) here (omega arith) (omega arith) (omega arith) ex (l.invariant.4 c.loop-i-test.true) c.open_block-plain.ensures l.invariant.3 o.ensures,
       λ h. let e : (l.i + n) / 16 ≡ suc k = omega arith in rw e ex,
     )
 

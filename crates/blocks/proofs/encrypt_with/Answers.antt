@@ -1,7 +1,7 @@
 -- Each turn lays one block more, at its place past `at`; what lies past it is still the old buffer.
 use mathlib.Core.Path.{◌≡◌, refl, ◌∙◌}
 use mathlib.Core.List.{List, ◌++◌}
-use Prim.Native.Nat.{ℕ, suc, ◌+◌, ◌-◌, ◌*◌, ◌/◌}
+use Prim.Native.Nat.{ℕ, suc, ◌+◌, ◌*◌, ◌/◌}
 use native.Mathlib.Nat.{zero-add}
 use native.Mathlib.Omega.{arith}
 use lib.ListN.{length, take, length-append}
@@ -34,14 +34,11 @@ pub loop-i-preserved : goal.loop-i-preserved
 unfolding seal_all before unit step_by mode_step
 loop-i-preserved c =
     let o = c.copy in
-    let q = c in
-    let f = q.filled_block-plain in
-    let t = q in
-    let l = t.loop-i in
-    let st = t in
-    let a = st.args in
-    let sixteen = st.requires.rounds_nonzero.3 in
-    let fit = st.requires.size_value in
+    let f = c.filled_block-plain in
+    let l = c.loop-i in
+    let a = c.args in
+    let sixteen = c.requires.rounds_nonzero.3 in
+    let fit = c.requires.size_value in
     let k = l.i / 16 in
     let here : 16 * k ≡ l.i = omega arith in
     let x : List ℕ = a.src.now ++ a.filling.now in
@@ -51,13 +48,13 @@ loop-i-preserved c =
     let z = from_sized a.mode a.w.now a.rounds a.place in
     let n = length s / 16 in
     let ex : f.result ≡ unit 16 k s = f.ensures ∙ rw (here, part_part 16 l.i a.size 0 x (omega arith), zero-add) in
-    let ep = l.invariant.4 t.loop-i-test.true in (
+    let ep = l.invariant.4 c.loop-i-test.true in (
       omega arith,
       omega arith,
       o.auto.d ∙ l.invariant.2,
-      seal_turn step z n k l.i 16 a.at (a.at + l.i) s a.out.now l.out o.new.d q.seal_block-sealed.result l.before f.result
-          (omega arith) here (omega arith) refl (omega arith) ex ep q.seal_block-sealed.ensures l.invariant.3 o.ensures,
-      λ h. let e : (l.i + 16) / 16 ≡ suc k = omega arith in rw e (seal_last step z n k s q.seal_block-sealed.result l.before f.result (omega arith) ex ep q.seal_block-sealed.ensures),
+      seal_turn step z n k l.i 16 a.at (a.at + l.i) s a.out.now l.out o.new.d c.seal_block-sealed.result l.before f.result
+          (omega arith) here (omega arith) refl (omega arith) ex ep c.seal_block-sealed.ensures l.invariant.3 o.ensures,
+      λ h. let e : (l.i + 16) / 16 ≡ suc k = omega arith in rw e (seal_last step z n k s c.seal_block-sealed.result l.before f.result (omega arith) ex ep c.seal_block-sealed.ensures),
     )
 
 pub returns : goal.returns

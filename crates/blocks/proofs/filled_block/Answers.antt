@@ -14,7 +14,6 @@ returns-then-left-ge16 c =
 
 pub returns : goal.returns
 returns c =
-    let s = c in
-    let a = s.args in
-    over_end a.s.now a.filling.now (replicate 16 0) _ _ a.at (length a.s.now - a.at) (omega arith) (omega arith) s.requires.1 refl
+    let a = c.args in
+    over_end a.s.now a.filling.now (replicate 16 0) _ _ a.at (length a.s.now - a.at) (omega arith) (omega arith) c.requires.1 refl
     c.copy.ensures c.copy-2.ensures

@@ -25,22 +25,19 @@ returns-then-not-mode c = rw (not-true c.args.mode.chained c.if-not-mode.true)
 pub overflow_cast-number : goal.overflow_cast-number
 unfolding segment
 overflow_cast-number c =
-    let t = c in
     let e = numbered (goal.at.overflow_cast-number c).Then-begins in
-    let p = t.requires in
+    let p = c.requires in
     omega arith
 
 pub returns-then-begins : goal.returns-then-begins
 unfolding with_link link
 returns-then-begins c =
-    let t = c in
-    let a = t.args in
+    let a = c.args in
     let n : a.place.number / 256 ≡ segment a.mode.size a.place.number = omega (arith, numbered (goal.at.returns-then-begins c).Then-begins) in
-    c.xored.ensures ∙ rw (c.starting_vector.ensures, not-false a.mode.chained t.if-not-mode.false, starts (goal.at.returns-then-begins c).Then-begins, n)
+    c.xored.ensures ∙ rw (c.starting_vector.ensures, not-false a.mode.chained c.if-not-mode.false, starts (goal.at.returns-then-begins c).Then-begins, n)
 
 pub returns : goal.returns
 unfolding with_link link
 returns c =
-    let e = c in
-    let a = e.args in
-    c.xored-2.ensures ∙ rw (not-false a.mode.chained e.if-not-mode.false, sym e.begins.ensures ∙ e.if-begins.false)
+    let a = c.args in
+    c.xored-2.ensures ∙ rw (not-false a.mode.chained c.if-not-mode.false, sym c.begins.ensures ∙ c.if-begins.false)

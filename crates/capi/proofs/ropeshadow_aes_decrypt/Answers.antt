@@ -8,7 +8,6 @@ use Rattle.capi.proofs.ropeshadow_aes_decrypt.Goals as goal
 pub returns : goal.returns
 unfolding Capi.decrypt_outcome
 returns c =
-    let b = c in
-    let a = b.args in
+    let a = c.args in
     c.written.ensures
-    ∙ ap (λ (r : Reply). Capi.block_outcome r a.out.now) (b.decrypt.ensures ∙ ap (Aes.decrypted a.key.now) b.sixteen.ensures)
+    ∙ ap (λ (r : Reply). Capi.block_outcome r a.out.now) (c.decrypt.ensures ∙ ap (Aes.decrypted a.key.now) c.sixteen.ensures)

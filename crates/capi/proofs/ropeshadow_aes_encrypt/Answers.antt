@@ -8,7 +8,6 @@ use Rattle.capi.proofs.ropeshadow_aes_encrypt.Goals as goal
 pub returns : goal.returns
 unfolding Capi.encrypt_outcome
 returns c =
-    let b = c in
-    let a = b.args in
+    let a = c.args in
     c.written.ensures
-    ∙ ap (λ (r : Reply). Capi.block_outcome r a.out.now) (b.encrypt.ensures ∙ ap (Aes.encrypted a.key.now) b.sixteen.ensures)
+    ∙ ap (λ (r : Reply). Capi.block_outcome r a.out.now) (c.encrypt.ensures ∙ ap (Aes.encrypted a.key.now) c.sixteen.ensures)

@@ -12,18 +12,16 @@ use Rattle.capi.proofs.ropeshadow_parse.Goals.{then-p-eq-DONE, else-p-eq-DONE}
 
 pub descriptor_bytes-requires : goal.descriptor_bytes-requires
 descriptor_bytes-requires c =
-    let p = c in
-    let info = p.args.info.now in
-    let scheme = p.args.scheme in
-    let h : Parses info scheme = sym (ap (λ (q : Parsed). q.answer) p.parse-p.ensures ∙ parsed_answer info scheme) ∙ c.if-p-eq-DONE.true in
-    let e = ap (λ (q : Parsed). q.fields) p.parse-p.ensures ∙ parsed_fields info scheme h in
+    let info = c.args.info.now in
+    let scheme = c.args.scheme in
+    let h : Parses info scheme = sym (ap (λ (q : Parsed). q.answer) c.parse-p.ensures ∙ parsed_answer info scheme) ∙ c.if-p-eq-DONE.true in
+    let e = ap (λ (q : Parsed). q.fields) c.parse-p.ensures ∙ parsed_fields info scheme h in
     subst Crosses (sym e) (described_fits info scheme h)
 
 pub returns : goal.returns
 unfolding Capi.parse_outcome
 returns c =
-    let p = c in
-    let old = p.args.out.now in
+    let old = c.args.out.now in
     answered _ _ _ old _ c.word.ensures
     (elim c.if-p-eq-DONE.branch [ then-p-eq-DONE w ↦ inl (w.if-p-eq-DONE.true, w.out-is ∙ w.descriptor_bytes.ensures) | else-p-eq-DONE w ↦ inr (w.if-p-eq-DONE.false, w.out-is) ])
-    ∙ ap (λ (q : Parsed). Capi.outcome_by q.answer 0 (descriptor_bytes q.fields) old) p.parse-p.ensures
+    ∙ ap (λ (q : Parsed). Capi.outcome_by q.answer 0 (descriptor_bytes q.fields) old) c.parse-p.ensures

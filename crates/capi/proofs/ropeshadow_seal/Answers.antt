@@ -10,6 +10,5 @@ word-requires c = seal_held _ _ _ _ _ _ _ c.seal-r.ensures
 pub returns : goal.returns
 unfolding chosen
 returns c =
-    let s = c in
-    let a = s.args in
-    seal_crossed _ _ _ _ _ c.word.ensures _ _ _ _ a.extra s.sixteen-filling.ensures s.seal-r.ensures
+    let a = c.args in
+    seal_crossed _ _ _ _ _ c.word.ensures _ _ _ _ a.extra c.sixteen-filling.ensures c.seal-r.ensures

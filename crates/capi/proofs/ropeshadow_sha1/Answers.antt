@@ -10,7 +10,6 @@ use Rattle.capi.proofs.ropeshadow_sha1.Goals.{then-h-eq-DONE, else-h-eq-DONE}
 pub returns : goal.returns
 unfolding Capi.hash_outcome
 returns c =
-    let digest = c in
-    let old = digest.args.out.now in
+    let old = c.args.out.now in
     answered _ _ _ old _ c.word.ensures (elim c.if-h-eq-DONE.branch [ then-h-eq-DONE w ↦ inl (w.if-h-eq-DONE.true, w.out-is) | else-h-eq-DONE w ↦ inr (w.if-h-eq-DONE.false, w.out-is) ])
-    ∙ ap (λ (h : Hashed). Capi.outcome_by h.answer 0 h.bytes old) digest.digest-h.ensures
+    ∙ ap (λ (h : Hashed). Capi.outcome_by h.answer 0 h.bytes old) c.digest-h.ensures

@@ -10,8 +10,5 @@ word-requires c = write_held _ _ _ _ _ _ _ _ _ c.write_info-r.ensures
 pub returns : goal.returns
 unfolding Capi.write_outcome
 returns c =
-    let w = c in
-    let b = w in
-    let f = b in
-    let l = rw (b.bit_count.ensures, f.twelve-filling.ensures, f.sixteen-verifier.ensures, f.sixteen-salt.ensures) at w.write_info-r.ensures in
+    let l = rw (c.bit_count.ensures, c.twelve-filling.ensures, c.sixteen-verifier.ensures, c.sixteen-salt.ensures) at c.write_info-r.ensures in
     write_crossed _ _ _ _ _ _ _ _ _ _ c.word.ensures l

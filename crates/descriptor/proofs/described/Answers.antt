@@ -22,27 +22,22 @@ extra c = ap (λ (n : Numbers). n.size_extra) c.requires.0
 
 pub sixteen-salt-requires : goal.sixteen-salt-requires
 sixteen-salt-requires c =
-    let s = c in
     omega (arith, size (goal.at.sixteen-salt-requires c).Start, info_length _ (admitted (goal.at.sixteen-salt-requires c).Start))
 
 pub sixteen-encrypted_verifier-requires : goal.sixteen-encrypted_verifier-requires
 sixteen-encrypted_verifier-requires c =
-    let s = c in
     omega (arith, size (goal.at.sixteen-encrypted_verifier-requires c).Start, info_length _ (admitted (goal.at.sixteen-encrypted_verifier-requires c).Start))
 
 pub thirty_two-encrypted_verifier_hash-requires : goal.thirty_two-encrypted_verifier_hash-requires
 thirty_two-encrypted_verifier_hash-requires c =
-    let s = c in
     omega (arith, size (goal.at.thirty_two-encrypted_verifier_hash-requires c).Start, info_length _ (admitted (goal.at.thirty_two-encrypted_verifier_hash-requires c).Start))
 
 pub overflow_sub-result : goal.overflow_sub-result
 overflow_sub-result c =
-    let s = c in
     omega (arith, size (goal.at.overflow_sub-result c).Start, header_low _ (admitted (goal.at.overflow_sub-result c).Start))
 
 pub overflow_sub-result-2 : goal.overflow_sub-result-2
 overflow_sub-result-2 c =
-    let s = c in
     omega (arith, size (goal.at.overflow_sub-result-2 c).Start, extra (goal.at.overflow_sub-result-2 c).Start, extra_fits _ (admitted (goal.at.overflow_sub-result-2 c).Start))
 
 pub returns : goal.returns

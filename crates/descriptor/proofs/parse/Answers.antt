@@ -1,7 +1,6 @@
 -- The answer decides between the fields and zeros.
 use mathlib.Core.Path.{◌≡◌, sym, ap, ap₂, ◌∙◌}
 use borrow.Author.Tests.{ne_eqb}
-use borrow.Author.Rules.{rules}
 use Rattle.answers.specs.Rules.{first_of, after}
 use Rattle.descriptor.specs.Info as stream
 use Rattle.descriptor.specs.declared.Numbers.{Numbers}
@@ -13,10 +12,9 @@ use Rattle.descriptor.proofs.parse.Goals.{After-then-a}
 judged : (c : After-then-a) → let a = c.args in c.then-a.result ≡ first_of (stream.parse_rules a.info.now a.scheme)
 unfolding stream.info_rules
 judged c =
-    let q = c in
-    let a = q.args in
+    let a = c.args in
     c.then-a.ensures
-    ∙ ap₂ after (q.answer.ensures ∙ ap (λ (n : Numbers). first_of (stream.number_rules n)) q.numbers_of-n.ensures) c.scheme_answer.ensures
+    ∙ ap₂ after (c.answer.ensures ∙ ap (λ (n : Numbers). first_of (stream.number_rules n)) c.numbers_of-n.ensures) c.scheme_answer.ensures
     ∙ sym (parse_in_turn a.info.now a.scheme)
 
 pub returns-then-a-ne-DONE : goal.returns-then-a-ne-DONE

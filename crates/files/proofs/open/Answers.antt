@@ -32,5 +32,4 @@ slice_bounds-open-end c = sym (length-take-le _ _ (omega (arith, within (goal.at
 
 pub returns : goal.returns
 returns c =
-    let p = c in
-    rw (c.«open».ensures, p.put_units.ensures) (sym (by_sheet _ _ _ _ (kept (goal.at.returns c).Else-a-ne-DONE)))
+    rw (c.«open».ensures, c.put_units.ensures) (sym (by_sheet _ _ _ _ (kept (goal.at.returns c).Else-a-ne-DONE)))

@@ -1,6 +1,6 @@
 -- Each turn lays one byte more; what lies past it is still the old buffer.
 use mathlib.Core.Path.{◌≡◌, refl, sym, ◌∙◌}
-use Prim.Native.Nat.{◌-◌, ◌<◌}
+use Prim.Native.Nat.{◌<◌}
 use native.Mathlib.Omega.{arith}
 use lib.ListN.{length, drop, length-drop, length-set}
 use lib.Seq.{paste-zero, get_or-drop}
@@ -12,14 +12,13 @@ loop-i-init c = (omega arith, (refl, paste-zero c.args.d.now c.args.at (drop c.a
 
 pub loop-i-preserved : goal.loop-i-preserved
 loop-i-preserved c =
-    let l = c in
-    let a = l.args in
-    let h : l.loop-i.i < length (drop a.from a.s.now) = simp length-drop (omega arith) in (
+    let a = c.args in
+    let h : c.loop-i.i < length (drop a.from a.s.now) = simp length-drop (omega arith) in (
       omega arith,
       (
-        rw length-set l.loop-i.invariant.1.0,
-        paste_more a.d.now (drop a.from a.s.now) l.loop-i.d a.at l.loop-i.i _ 0 (omega arith) h l.loop-i.invariant.1.1
-            (sym (get_or-drop a.from a.s.now l.loop-i.i 0)),
+        rw length-set c.loop-i.invariant.1.0,
+        paste_more a.d.now (drop a.from a.s.now) c.loop-i.d a.at c.loop-i.i _ 0 (omega arith) h c.loop-i.invariant.1.1
+            (sym (get_or-drop a.from a.s.now c.loop-i.i 0)),
       ),
     )
 

@@ -16,18 +16,16 @@ loop-i-init c =
 
 pub loop-i-preserved : goal.loop-i-preserved
 loop-i-preserved c =
-    let l = c in
-    let a = l.args in
+    let a = c.args in
     let n : ℕ = length a.d.now - a.from in
-    let here : a.from + (l.loop-i.i - a.from) ≡ l.loop-i.i = omega arith in
-    let more : l.loop-i.i - a.from + 1 ≡ l.loop-i.i + 1 - a.from = omega arith in
-    let turn = paste_more a.d.now (replicate n 0) l.loop-i.d a.from (l.loop-i.i - a.from) 0 0 (omega arith) (rw length-replicate (omega arith)) l.loop-i.invariant.1.1.1 (sym (get_or-replicate n (l.loop-i.i - a.from) 0 0 (omega arith))) in
-    (omega arith, (omega arith, (rw length-set l.loop-i.invariant.1.1.0, rw (here, more) at turn)))
+    let here : a.from + (c.loop-i.i - a.from) ≡ c.loop-i.i = omega arith in
+    let more : c.loop-i.i - a.from + 1 ≡ c.loop-i.i + 1 - a.from = omega arith in
+    let turn = paste_more a.d.now (replicate n 0) c.loop-i.d a.from (c.loop-i.i - a.from) 0 0 (omega arith) (rw length-replicate (omega arith)) c.loop-i.invariant.1.1.1 (sym (get_or-replicate n (c.loop-i.i - a.from) 0 0 (omega arith))) in
+    (omega arith, (omega arith, (rw length-set c.loop-i.invariant.1.1.0, rw (here, more) at turn)))
 
 pub returns : goal.returns
 unfolding zero_from
 returns c =
-    let l = c in
-    let a = l.args in
-    let e : l.loop-i.i - a.from ≡ length a.d.now - a.from = omega arith in
-    l.loop-i.invariant.1.1.1 ∙ rw e (paste_end a.d.now (replicate (length a.d.now - a.from) 0) a.from (length a.d.now - a.from) (length-replicate (length a.d.now - a.from) 0) (omega arith))
+    let a = c.args in
+    let e : c.loop-i.i - a.from ≡ length a.d.now - a.from = omega arith in
+    c.loop-i.invariant.1.1.1 ∙ rw e (paste_end a.d.now (replicate (length a.d.now - a.from) 0) a.from (length a.d.now - a.from) (length-replicate (length a.d.now - a.from) 0) (omega arith))

@@ -1,6 +1,6 @@
 -- Each turn lays one word more.
 use mathlib.Core.Path.{refl}
-use Prim.Native.Nat.{◌-◌, ◌<◌}
+use Prim.Native.Nat.{◌<◌}
 use native.Mathlib.Omega.{arith}
 use Rattle.fips197.specs.Products.{entry}
 use Rattle.fips197.proofs.Steps.{filled_none, filled_more}

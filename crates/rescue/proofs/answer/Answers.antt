@@ -5,7 +5,4 @@ use Rattle.rescue.proofs.answer.Goals as goal
 
 pub returns : goal.returns
 returns c =
-    let t = c in
-    let m = t in
-    let p = m in
-    c.first.ensures ∙ rw (t.then-rest.ensures, m.room_answer.ensures, p.package_answer-large.ensures, p.stream_size-size.ensures) (sym (head_in_turn _ _))
+    c.first.ensures ∙ rw (c.then-rest.ensures, c.room_answer.ensures, c.package_answer-large.ensures, c.stream_size-size.ensures) (sym (head_in_turn _ _))

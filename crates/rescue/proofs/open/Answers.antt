@@ -91,25 +91,20 @@ mode_size c = ap (λ (m : Mode). m.size) c.mode_of-mode.ensures
 pub decrypt-requires : goal.decrypt-requires
 unfolding package_limit
 decrypt-requires c =
-    let e = c in
     let z = c.stream_size-size.ensures in
     let k = (holds (goal.at.decrypt-requires c).After-then-a c.if-a-ne-DONE.false).1 in
     let r = recovered_held (goal.at.decrypt-requires c).After-counted-counts in
     let p = ap (λ (p : Place). p.number) c.start.ensures in
-    let s = e.args.stream.now in
+    let s = c.args.stream.now in
     let m = mode_size (goal.at.decrypt-requires c).After-mode_of-mode in
     let all = take_all (length s - 8) (drop 8 s) (simp length-drop (omega arith)) in record {
-      rounds_nonzero = rounds_known _ (holds (goal.at.decrypt-requires c).After-then-a c.if-a-ne-DONE.false).0 _ e.unlock-u.ensures;
+      rounds_nonzero = rounds_known _ (holds (goal.at.decrypt-requires c).After-then-a c.if-a-ne-DONE.false).0 _ c.unlock-u.ensures;
       size_bound = (rw (all, length-drop) r.1, omega (arith, r.0, k.roomy), omega (arith, p, r.0, k.limited), omega (arith, z, m, k.limited));
     }
 
 pub returns : goal.returns
 returns c =
-    let d = c in
-    let m = d in
-    let n = m in
-    let e = n in
-    let a = e.args in
-    rescue_written (lock_of a.info.now a.password.now a.scheme) a.stream.now a.out.now _ _ _ _ _ _ (kept (goal.at.returns c).After-then-a c.if-a-ne-DONE.false) n.stream_size-size.ensures (counts_are (goal.at.returns c).After-counted-counts)
-    (step_under _ (holds (goal.at.returns c).After-then-a c.if-a-ne-DONE.false).0 _ e.unlock-u.ensures _ _ _ (m.mode_of-mode.ensures ∙ ap (mode_of _) n.stream_size-size.ensures) d.start.ensures)
-    d.decrypt.ensures c.done.ensures
+    let a = c.args in
+    rescue_written (lock_of a.info.now a.password.now a.scheme) a.stream.now a.out.now _ _ _ _ _ _ (kept (goal.at.returns c).After-then-a c.if-a-ne-DONE.false) c.stream_size-size.ensures (counts_are (goal.at.returns c).After-counted-counts)
+    (step_under _ (holds (goal.at.returns c).After-then-a c.if-a-ne-DONE.false).0 _ c.unlock-u.ensures _ _ _ (c.mode_of-mode.ensures ∙ ap (mode_of _) c.stream_size-size.ensures) c.start.ensures)
+    c.decrypt.ensures c.done.ensures

@@ -1,6 +1,5 @@
 -- A remainder by 251 is a byte.
 use mathlib.Core.Path.{refl}
-use Prim.Native.Nat.{◌-◌}
 use native.Mathlib.Omega.{arith}
 use lib.ListN.{length-set}
 use Rattle.samples.proofs.pattern.Goals as goal

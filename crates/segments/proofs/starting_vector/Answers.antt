@@ -10,11 +10,8 @@ use Rattle.segments.proofs.starting_vector.Goals as goal
 pub returns : goal.returns
 unfolding start_of
 returns c =
-    let h = c in
-    let m = h in
-    let st = m in
-    let a = st.args in
+    let a = c.args in
     let long : length a.salt ≡ 16 = search rules in
     c.sixteen.ensures
-    ∙ ap (take 16) (c.output-digest.ensures ∙ h.hash.ensures
-    ∙ ap sha1 (message_laid a.salt a.number _ _ long m.copy.ensures m.put_number.ensures))
+    ∙ ap (take 16) (c.output-digest.ensures ∙ c.hash.ensures
+    ∙ ap sha1 (message_laid a.salt a.number _ _ long c.copy.ensures c.put_number.ensures))

@@ -49,8 +49,7 @@ headed c z = (holds c z).1.fits.headed
 pub returns-then-a-ne-DONE : goal.returns-then-a-ne-DONE
 unfolding opened
 returns-then-a-ne-DONE c =
-    let t = c in
-    refusal _ _ _ _ _ _ _ _ (answers (goal.at.returns-then-a-ne-DONE c).After-then-a) t.if-a-ne-DONE.true c.ended.ensures
+    refusal _ _ _ _ _ _ _ _ (answers (goal.at.returns-then-a-ne-DONE c).After-then-a) c.if-a-ne-DONE.true c.ended.ensures
 
 -- the mode has the package's size
 mode_size : (c : After-mode_of-mode) → c.mode_of-mode.result.size ≡ c.stream_size-size.result
@@ -60,24 +59,21 @@ mode_size c = ap (λ (m : Mode). m.size) c.mode_of-mode.ensures
 pub decrypt-requires : goal.decrypt-requires
 unfolding package_limit
 decrypt-requires c =
-    let e = c in
     let z = c.stream_size-size.ensures in
     let k = (holds (goal.at.decrypt-requires c).After-then-a c.if-a-ne-DONE.false).1 in
     let p = ap (λ (p : Place). p.number) c.start.ensures in
-    let s = e.args.stream.now in
+    let s = c.args.stream.now in
     let m = mode_size (goal.at.decrypt-requires c).After-mode_of-mode in
     let all = take_all (length s - 8) (drop 8 s) (simp length-drop (omega arith)) in record {
-      rounds_nonzero = rounds_known _ (holds (goal.at.decrypt-requires c).After-then-a c.if-a-ne-DONE.false).0 _ e.unlock-u.ensures;
+      rounds_nonzero = rounds_known _ (holds (goal.at.decrypt-requires c).After-then-a c.if-a-ne-DONE.false).0 _ c.unlock-u.ensures;
       size_bound = (rw (z, all) (openable_blocks _ _ k), rw z k.roomy, omega (arith, z, p, k.fits.limited), omega (arith, z, m, k.fits.limited));
     }
 
 pub returns : goal.returns
 returns c =
-    let d = c in
-    let e = d in
-    open_written _ _ _ _ _ _ _ _ (kept (goal.at.returns c).After-then-a c.if-a-ne-DONE.false) d.stream_size-size.ensures
-    (step_under _ (holds (goal.at.returns c).After-then-a c.if-a-ne-DONE.false).0 _ e.unlock-u.ensures _ _ _ (d.mode_of-mode.ensures ∙ ap (mode_of _) d.stream_size-size.ensures) d.start.ensures)
-    d.decrypt.ensures c.ended-2.ensures
+    open_written _ _ _ _ _ _ _ _ (kept (goal.at.returns c).After-then-a c.if-a-ne-DONE.false) c.stream_size-size.ensures
+    (step_under _ (holds (goal.at.returns c).After-then-a c.if-a-ne-DONE.false).0 _ c.unlock-u.ensures _ _ _ (c.mode_of-mode.ensures ∙ ap (mode_of _) c.stream_size-size.ensures) c.start.ensures)
+    c.decrypt.ensures c.ended-2.ensures
 
 pub slice_bounds-decrypt-count : goal.slice_bounds-decrypt-count
 slice_bounds-decrypt-count c = headed (goal.at.slice_bounds-decrypt-count c).After-then-a c.if-a-ne-DONE.false

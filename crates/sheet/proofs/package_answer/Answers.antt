@@ -27,9 +27,8 @@ overflow_add-rounded c = omega (arith, rounded_most _ _ _ c.rounded.ensures, wit
 pub returns : goal.returns
 unfolding package_rules sealed_size
 returns c =
-    let e = c in
-    c.room_answer.ensures ∙ ap (λ (n : ℕ). first_of (room_rules e.args.room (8 + n))) c.rounded.ensures
-    ∙ sym (then _ _ (size_numbered _) (sym e.package_answer-a.ensures ∙ e.if-a-ne-DONE.false))
+    c.room_answer.ensures ∙ ap (λ (n : ℕ). first_of (room_rules c.args.room (8 + n))) c.rounded.ensures
+    ∙ sym (then _ _ (size_numbered _) (sym c.package_answer-a.ensures ∙ c.if-a-ne-DONE.false))
 
 pub rounded-requires : goal.rounded-requires
 rounded-requires c = within c

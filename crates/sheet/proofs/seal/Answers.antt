@@ -48,8 +48,7 @@ holds c z =
 pub returns-then-a-ne-DONE : goal.returns-then-a-ne-DONE
 unfolding sealed
 returns-then-a-ne-DONE c =
-    let t = c in
-    refusal _ _ _ _ _ _ _ _ (answers (goal.at.returns-then-a-ne-DONE c).After-then-a) t.if-a-ne-DONE.true c.ended.ensures
+    refusal _ _ _ _ _ _ _ _ (answers (goal.at.returns-then-a-ne-DONE c).After-then-a) c.if-a-ne-DONE.true c.ended.ensures
 
 pub put_le64-requires : goal.put_le64-requires
 unfolding sealed_size rounded
@@ -63,31 +62,25 @@ mode_size c = ap (λ (m : Mode). m.size) c.mode_of-mode.ensures
 pub encrypt-requires : goal.encrypt-requires
 unfolding sealed_size rounded package_limit
 encrypt-requires c =
-    let e = c in
     let n = c.rounded-whole.ensures in
     let m = mode_size (goal.at.encrypt-requires c).After-mode_of-mode in
     let k = c.put_le64.auto.d in
     let p = ap (λ (p : Place). p.number) c.start.ensures in
     let h = holds (goal.at.encrypt-requires c).After-then-a c.if-a-ne-DONE.false in record {
-      rounds_nonzero = rounds_known _ h.0 _ e.unlock-u.ensures;
+      rounds_nonzero = rounds_known _ h.0 _ c.unlock-u.ensures;
       size_value = (rw n (rounded_whole _ _), omega (arith, rounded_most _ _ _ n), omega (arith, h.1.roomy), omega (arith, p, rounded_most _ _ _ n, h.1.limited), omega (arith, m, h.1.limited));
     }
 
 pub overflow_add-whole : goal.overflow_add-whole
 unfolding package_limit
 overflow_add-whole c =
-    let r = c in
-    omega (arith, (holds (goal.at.overflow_add-whole c).After-then-a c.if-a-ne-DONE.false).1.limited, rounded_most _ _ _ r.rounded-whole.ensures)
+    omega (arith, (holds (goal.at.overflow_add-whole c).After-then-a c.if-a-ne-DONE.false).1.limited, rounded_most _ _ _ c.rounded-whole.ensures)
 
 pub returns : goal.returns
 returns c =
-    let d = c in
-    let r = d in
-    let e = r in
-    let s = e in
-    seal_written _ _ _ s.args.filling s.args.extra _ _ _ _ _ _ (kept (goal.at.returns c).After-then-a c.if-a-ne-DONE.false) (sixteen (goal.at.returns c).Start) r.rounded-whole.ensures
-    (step_under _ (holds (goal.at.returns c).After-then-a c.if-a-ne-DONE.false).0 _ e.unlock-u.ensures _ _ _ d.mode_of-mode.ensures d.start.ensures)
-    d.put_le64.ensures d.encrypt.ensures c.ended-2.ensures
+    seal_written _ _ _ c.args.filling c.args.extra _ _ _ _ _ _ (kept (goal.at.returns c).After-then-a c.if-a-ne-DONE.false) (sixteen (goal.at.returns c).Start) c.rounded-whole.ensures
+    (step_under _ (holds (goal.at.returns c).After-then-a c.if-a-ne-DONE.false).0 _ c.unlock-u.ensures _ _ _ c.mode_of-mode.ensures c.start.ensures)
+    c.put_le64.ensures c.encrypt.ensures c.ended-2.ensures
 
 pub rounded-whole-requires : goal.rounded-whole-requires
 rounded-whole-requires c = (holds (goal.at.rounded-whole-requires c).After-then-a c.if-a-ne-DONE.false).1.limited

@@ -5,12 +5,7 @@ use Rattle.stretch.proofs.answer.Goals as goal
 
 pub returns : goal.returns
 returns c =
-    let t = c in
-    let m = t in
-    let p = m in
-    let g = p in
-    let l = g in
-    let z = l.stream_size-size.ensures in
+    let z = c.stream_size-size.ensures in
     c.then-2.ensures
-    ∙ rw (t.then.ensures, m.room_answer-roomy.ensures, p.span.ensures, g.range_answer-range.ensures, l.stream_answer-long.ensures, z)
+    ∙ rw (c.then.ensures, c.room_answer-roomy.ensures, c.span.ensures, c.range_answer-range.ensures, c.stream_answer-long.ensures, z)
     (sym (part_in_turn _ _ _ _))

@@ -46,22 +46,19 @@ holds c z =
 pub returns-then-a-ne-DONE : goal.returns-then-a-ne-DONE
 unfolding stretched
 returns-then-a-ne-DONE c =
-    let t = c in
-    refusal _ _ _ _ _ _ _ _ (answers (goal.at.returns-then-a-ne-DONE c).After-then-a) t.if-a-ne-DONE.true c.ended.ensures
+    refusal _ _ _ _ _ _ _ _ (answers (goal.at.returns-then-a-ne-DONE c).After-then-a) c.if-a-ne-DONE.true c.ended.ensures
 
 -- the mode has the package's size
-mode_is : (c : After-mode_of-mode) → let s = c in
-    c.mode_of-mode.result ≡ mode_of c.unlock-u.result.fields (stream_size s.args.stream.now)
+mode_is : (c : After-mode_of-mode) → c.mode_of-mode.result ≡ mode_of c.unlock-u.result.fields (stream_size c.args.stream.now)
 mode_is c = c.mode_of-mode.ensures ∙ ap (mode_of _) c.stream_size.ensures
 
 pub open_bytes-requires : goal.open_bytes-requires
 unfolding package_limit mode_of
 open_bytes-requires c =
-    let e = c in
     let n = c.span-size.ensures in
     let k = (holds (goal.at.open_bytes-requires c).After-then-a c.if-a-ne-DONE.false).1 in
-    let a = e.args in
-    let r = rounds_known _ (holds (goal.at.open_bytes-requires c).After-then-a c.if-a-ne-DONE.false).0 _ e.unlock-u.ensures in
+    let a = c.args in
+    let r = rounds_known _ (holds (goal.at.open_bytes-requires c).After-then-a c.if-a-ne-DONE.false).0 _ c.unlock-u.ensures in
     let m = ap (λ (x : Mode). x.size) (mode_is (goal.at.open_bytes-requires c).After-mode_of-mode) in
     let b = openable_blocks a.stream.now (stream_size a.stream.now) (reachable_opens k) in
     record {
@@ -71,10 +68,6 @@ open_bytes-requires c =
 
 pub returns : goal.returns
 returns c =
-    let d = c in
-    let m = d in
-    let e = m in
-    let s = e in
-    stretch_written (lock_of s.args.info.now s.args.password.now s.args.scheme) _ s.args.stream.now s.args.out.now _ _ s.args.from s.args.to _ _ (kept (goal.at.returns c).After-then-a c.if-a-ne-DONE.false) m.span-size.ensures
-    (sym (from_start _ _ _) ∙ step_under _ (holds (goal.at.returns c).After-then-a c.if-a-ne-DONE.false).0 _ e.unlock-u.ensures _ stream_start _ (mode_is (goal.at.returns c).After-mode_of-mode) refl)
-    d.open_bytes.ensures c.ended-2.ensures
+    stretch_written (lock_of c.args.info.now c.args.password.now c.args.scheme) _ c.args.stream.now c.args.out.now _ _ c.args.from c.args.to _ _ (kept (goal.at.returns c).After-then-a c.if-a-ne-DONE.false) c.span-size.ensures
+    (sym (from_start _ _ _) ∙ step_under _ (holds (goal.at.returns c).After-then-a c.if-a-ne-DONE.false).0 _ c.unlock-u.ensures _ stream_start _ (mode_is (goal.at.returns c).After-mode_of-mode) refl)
+    c.open_bytes.ensures c.ended-2.ensures

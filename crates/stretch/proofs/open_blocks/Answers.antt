@@ -5,6 +5,5 @@ use Rattle.stretch.proofs.open_blocks.Goals as goal
 
 pub returns : goal.returns
 returns c =
-    let s = c in
-    let a = s.args in
-    blocks_laid _ _ _ a.stream.now _ _ _ _ a.out.now _ refl c.block_before-before.ensures refl s.requires.in_bounds.1 c.decrypt.ensures
+    let a = c.args in
+    blocks_laid _ _ _ a.stream.now _ _ _ _ a.out.now _ refl c.block_before-before.ensures refl c.requires.in_bounds.1 c.decrypt.ensures

@@ -5,10 +5,7 @@ use Rattle.stretch.proofs.open_bytes.Goals as goal
 
 pub returns : goal.returns
 returns c =
-    let w = c in
-    let h = w in
-    let s = h in
-    let n = h.head-n.ensures in
-    let a = s.args in
-    bytes_laid _ _ _ a.stream.now a.from a.size _ a.out.now _ _ s.requires.in_bounds.1 s.requires.in_bounds.2 (omega (arith, n)) (λ l. omega (arith, n, l)) w.open_within.ensures
+    let n = c.head-n.ensures in
+    let a = c.args in
+    bytes_laid _ _ _ a.stream.now a.from a.size _ a.out.now _ _ c.requires.in_bounds.1 c.requires.in_bounds.2 (omega (arith, n)) (λ l. omega (arith, n, l)) c.open_within.ensures
     c.open_blocks.ensures

@@ -7,7 +7,5 @@ returns-then-size-eq0 c = let a = c.args in none_laid _ _ _ a.stream.now a.from 
 
 pub returns : goal.returns
 returns c =
-    let b = c in
-    let s = b in
-    let a = s.args in
-    within_laid _ _ _ a.stream.now a.from a.size a.out.now _ _ s.requires.size_bound b.open_blocks.ensures c.copy.ensures
+    let a = c.args in
+    within_laid _ _ _ a.stream.now a.from a.size a.out.now _ _ c.requires.size_bound c.open_blocks.ensures c.copy.ensures

@@ -13,12 +13,10 @@ returns-then-a-ne-DONE c =
 
 pub overflow_add-name : goal.overflow_add-name
 overflow_add-name c =
-    let f = c in
-    omega (arith, (to_fields _ _ (sym f.fields_answer-a.ensures ∙ f.if-a-ne-DONE.false)).0)
+    omega (arith, (to_fields _ _ (sym c.fields_answer-a.ensures ∙ c.if-a-ne-DONE.false)).0)
 
 pub returns : goal.returns
 unfolding info_size
 returns c =
-    let f = c in
     c.then.ensures ∙ ap₂ after c.text_answer.ensures c.room_answer.ensures
-    ∙ sym (after_fields _ _ _ _ (sym f.fields_answer-a.ensures ∙ f.if-a-ne-DONE.false))
+    ∙ sym (after_fields _ _ _ _ (sym c.fields_answer-a.ensures ∙ c.if-a-ne-DONE.false))

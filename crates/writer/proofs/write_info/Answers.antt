@@ -30,8 +30,7 @@ fit c = (writable _ _ _ _).0 (kept c)
 pub returns-then-a-ne-DONE : goal.returns-then-a-ne-DONE
 unfolding written
 returns-then-a-ne-DONE c =
-    let t = c in
-    refusal _ _ _ _ _ _ _ _ t.answer-a.ensures t.if-a-ne-DONE.true c.ended.ensures
+    refusal _ _ _ _ _ _ _ _ c.answer-a.ensures c.if-a-ne-DONE.true c.ended.ensures
 
 pub front-front-requires : goal.front-front-requires
 unfolding name_limit
@@ -76,17 +75,12 @@ overflow_add-n-2 c = omega (arith, (fit (goal.at.overflow_add-n-2 c).Else-a-ne-D
 
 pub returns : goal.returns
 returns c =
-    let last = c in
-    let name = last in
-    let first = name in
-    let part = first in
-    let e = part in
-    let a = e.args in
+    let a = c.args in
     let k = new_key a.bits.0 a.salt a.password.now in
-    let front = part.front-front in
+    let front = c.front-front in
     let lf : length front.result ≡ 44 = search rules in
-    let ll : length part.locked-locked.result ≡ 72 = search rules in
+    let ll : length c.locked-locked.result ≡ 72 = search rules in
     written_laid a.bits.0 _ _ a.salt a.verifier a.filling _ (kept (goal.at.returns c).Else-a-ne-DONE) _ _ _ _ _ _ _
     (front.ensures k a.name.now a.salt a.verifier a.filling refl) lf
-    (part.locked-locked.ensures a.bits.0 k a.name.now (key_fits a.bits.0 a.salt a.password.now (fit (goal.at.returns c).Else-a-ne-DONE).key) (key (goal.at.returns c).After-expanded_key-key)) ll
-    first.copy.ensures name.copy-2.ensures last.copy-3.ensures c.ended-2.ensures
+    (c.locked-locked.ensures a.bits.0 k a.name.now (key_fits a.bits.0 a.salt a.password.now (fit (goal.at.returns c).Else-a-ne-DONE).key) (key (goal.at.returns c).After-expanded_key-key)) ll
+    c.copy.ensures c.copy-2.ensures c.copy-3.ensures c.ended-2.ensures

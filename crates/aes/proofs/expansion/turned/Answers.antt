@@ -19,19 +19,17 @@ round_constant-requires c =
 pub returns-then-place-eq0 : goal.returns-then-place-eq0
 unfolding xor
 returns-then-place-eq0 c =
-    let at = c in
-    let size : length at.args.t ≡ 4 = search rules in
-    turned_first at.args.nk at.args.i at.args.t at.args.table.now c.sub_word-u.result c.round_constant.result
-    c.if-place-eq0.true size at.requires.3 c.sub_word-u.ensures c.round_constant.ensures
+    let size : length c.args.t ≡ 4 = search rules in
+    turned_first c.args.nk c.args.i c.args.t c.args.table.now c.sub_word-u.result c.round_constant.result
+    c.if-place-eq0.true size c.requires.3 c.sub_word-u.ensures c.round_constant.ensures
 
 pub sub_word-requires : goal.sub_word-requires
 sub_word-requires c = ap length c.requires.3 ∙ length_sbox
 
 pub returns-then-place-eq4 : goal.returns-then-place-eq4
 returns-then-place-eq4 c =
-    let at = c in
-    turned_half at.args.nk at.args.i at.args.t at.args.table.now c.sub_word.result
-    c.if-place-eq0.false c.if-nk-gt6.true c.if-place-eq4.true at.requires.3 c.sub_word.ensures
+    turned_half c.args.nk c.args.i c.args.t c.args.table.now c.sub_word.result
+    c.if-place-eq0.false c.if-nk-gt6.true c.if-place-eq4.true c.requires.3 c.sub_word.ensures
 
 pub returns-else-place-eq4 : goal.returns-else-place-eq4
 returns-else-place-eq4 c =

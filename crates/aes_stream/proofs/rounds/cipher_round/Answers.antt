@@ -12,9 +12,8 @@ round-requires c = let p = c.requires in (p.2.long, p.0, p.1)
 
 pub returns : goal.returns
 returns c =
-    let st = c in
-    let a = st.args in
+    let a = c.args in
     let key = Cipher.round_key a.w.now in
-    c.round.ensures 2 3 1 1 (look sbox) st.requires.2
+    c.round.ensures 2 3 1 1 (look sbox) c.requires.2
     ∙ ap (λ u. Cipher.add_round_key (Cipher.columns (Cipher.row 2 3 1 1) (map (look sbox) u)) (key a.n)) c.shift_rows.ensures
     ∙ by_round key a.n a.s (search rules)

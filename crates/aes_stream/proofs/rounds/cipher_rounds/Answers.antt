@@ -1,6 +1,6 @@
 -- Before each turn the state has gone through the rounds below n.
 use mathlib.Core.Path.{◌≡◌, sym, ◌∙◌}
-use Prim.Native.Nat.{◌+◌, ◌-◌}
+use Prim.Native.Nat.{◌+◌}
 use native.Mathlib.Omega.{arith}
 use Rattle.fips197.specs.Cipher as Cipher
 use Rattle.fips197.proofs.Steps.{rounds_none, rounds_more}

@@ -19,8 +19,7 @@ pub returns : goal.returns
 unfolding xor le_at
 returns c =
     λ p q s t sub h.
-    let st = c in
-    let a = st.args in
+    let a = c.args in
     let bytes = map sub (a.a ∷ a.b ∷ a.c ∷ a.d ∷ []) in
     let mixed = columns (row p q s t) bytes in
     let key = take 4 (drop a.at a.w.now) in

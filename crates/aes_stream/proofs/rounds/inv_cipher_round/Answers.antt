@@ -14,9 +14,8 @@ round-requires c = let p = c.requires in (p.2.long, p.0, p.1)
 pub returns : goal.returns
 returns c =
     λ w long keys.
-    let st = c in
-    let a = st.args in
-    c.round.ensures 14 11 13 9 (look inv_sbox) st.requires.2
+    let a = c.args in
+    c.round.ensures 14 11 13 9 (look inv_sbox) c.requires.2
     ∙ ap₂ (λ (u k : List ℕ). Cipher.add_round_key (Cipher.columns (Cipher.row 14 11 13 9) (map (look inv_sbox) u)) (Cipher.round_key k a.n))
     c.inv_shift_rows.ensures keys
     ∙ by_inv_round w a.n a.s (omega arith)

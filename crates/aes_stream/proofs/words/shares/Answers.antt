@@ -1,6 +1,6 @@
 -- Each turn lays one share more.
 use mathlib.Core.Path.{refl, subst⁻¹, ◌∙◌}
-use Prim.Native.Nat.{◌-◌, ◌<◌}
+use Prim.Native.Nat.{◌<◌}
 use native.Mathlib.Omega.{arith}
 use Rattle.fips197.specs.Field.{xor}
 use Rattle.fips197.specs.Products.{share, Laid}

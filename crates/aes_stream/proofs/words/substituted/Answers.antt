@@ -1,6 +1,6 @@
 -- Each turn lays one word more, in the table of its row.
 use mathlib.Core.Path.{refl, ap, subst⁻¹, ◌∙◌}
-use Prim.Native.Nat.{◌-◌, ◌/◌, ◌<◌}
+use Prim.Native.Nat.{◌/◌, ◌<◌}
 use native.Mathlib.Omega.{arith}
 use Rattle.fips197.specs.Tables.{look}
 use Rattle.fips197.specs.Products.{moved_word}
@@ -23,8 +23,7 @@ loop-i-preserved c =
 pub returns : goal.returns
 returns c =
     λ p q s t b h.
-    let st = c in
-    let a = st.args in
+    let a = c.args in
     subst⁻¹ (Rows p q s t (look a.table.now))
     (filled_all 1024 (at a.table.now a.shares.now) c.loop-i.i c.loop-i.words c.loop-i-test.false c.loop-i.invariant)
-    (by_table p q s t a.table.now a.shares.now st.requires.0 b h)
+    (by_table p q s t a.table.now a.shares.now c.requires.0 b h)

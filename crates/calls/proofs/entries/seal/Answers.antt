@@ -12,5 +12,4 @@ sixteen c = search rules
 
 pub returns : goal.returns
 returns c =
-    let s = c in
-    subst⁻¹ (Sealing _ _ _ _ _) s.seal.ensures (sealing _ _ _ _ _ (sixteen (goal.at.returns c).Start))
+    subst⁻¹ (Sealing _ _ _ _ _) c.seal.ensures (sealing _ _ _ _ _ (sixteen (goal.at.returns c).Start))

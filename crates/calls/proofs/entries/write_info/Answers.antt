@@ -14,5 +14,4 @@ typed c = record { salt = search rules; verifier = search rules; filling = searc
 pub returns : goal.returns
 unfolding writes
 returns c =
-    let w = c in
-    subst⁻¹ (Writing _ _) w.write_info.ensures (writing _ _ (typed (goal.at.returns c).Start))
+    subst⁻¹ (Writing _ _) c.write_info.ensures (writing _ _ (typed (goal.at.returns c).Start))

@@ -27,10 +27,5 @@ slice_bounds-seal-end-2 c = sym (length-take-le _ _ (opened_within _ _ c.args.fi
 
 pub returns : goal.returns
 returns c =
-    let o = c in
-    let e = o in
-    let m = e in
-    let known = m in
-    let s = known in
-    resealed _ _ _ _ _ _ _ m.open-o.ensures e.if-a-ne-DONE.false (record { at = λ i. (known.shared_slice_known-3-1.given i).fits })
-    (sixteen (goal.at.returns c).Start) (record { at = λ i. (byte (goal.at.returns c).Start i).fits }) _ _ _ o.seal.ensures
+    resealed _ _ _ _ _ _ _ c.open-o.ensures c.if-a-ne-DONE.false (record { at = λ i. (c.shared_slice_known-3-1.given i).fits })
+    (sixteen (goal.at.returns c).Start) (record { at = λ i. (byte (goal.at.returns c).Start i).fits }) _ _ _ c.seal.ensures

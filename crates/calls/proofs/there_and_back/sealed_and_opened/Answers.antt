@@ -18,23 +18,16 @@ byte c i = search rules
 
 pub returns-then-a-ne-DONE : goal.returns-then-a-ne-DONE
 returns-then-a-ne-DONE c =
-    let m = c in
-    returned_refused _ _ _ _ _ (sixteen (goal.at.returns-then-a-ne-DONE c).Start) _ _ m.seal-s.ensures _ c.if-a-ne-DONE.true
+    returned_refused _ _ _ _ _ (sixteen (goal.at.returns-then-a-ne-DONE c).Start) _ _ c.seal-s.ensures _ c.if-a-ne-DONE.true
 
 pub slice_bounds-open-end : goal.slice_bounds-open-end
 slice_bounds-open-end c =
-    let m = c in
-    sealed_within _ _ _ _ _ (sixteen (goal.at.slice_bounds-open-end c).Start) _ _ m.seal-s.ensures c.if-a-ne-DONE.false
+    sealed_within _ _ _ _ _ (sixteen (goal.at.slice_bounds-open-end c).Start) _ _ c.seal-s.ensures c.if-a-ne-DONE.false
 
 pub slice_bounds-open-end-2 : goal.slice_bounds-open-end-2
 slice_bounds-open-end-2 c = sym (length-take-le _ _ (sealed_within _ _ _ _ _ (sixteen (goal.at.slice_bounds-open-end-2 c).Start) _ _ c.seal-s.ensures c.if-a-ne-DONE.false))
 
 pub returns : goal.returns
 returns c =
-    let o = c in
-    let e = o in
-    let m = e in
-    let known = m in
-    let s = known in
-    returned _ _ _ _ _ (sixteen (goal.at.returns c).Start) _ _ m.seal-s.ensures e.if-a-ne-DONE.false _
-    (record { at = λ i. (known.shared_slice_known-3-1.given i).fits }) (record { at = λ i. (byte (goal.at.returns c).Start i).fits }) _ _ o.«open».ensures
+    returned _ _ _ _ _ (sixteen (goal.at.returns c).Start) _ _ c.seal-s.ensures c.if-a-ne-DONE.false _
+    (record { at = λ i. (c.shared_slice_known-3-1.given i).fits }) (record { at = λ i. (byte (goal.at.returns c).Start i).fits }) _ _ c.«open».ensures

@@ -15,8 +15,7 @@ typed c = record { salt = search rules; verifier = search rules; filling = searc
 pub slice_bounds-parse-end : goal.slice_bounds-parse-end
 unfolding writes
 slice_bounds-parse-end c =
-    let w = c in
-    written_within _ _ (typed (goal.at.slice_bounds-parse-end c).Start) _ _ w.write_info-reply.ensures
+    written_within _ _ (typed (goal.at.slice_bounds-parse-end c).Start) _ _ c.write_info-reply.ensures
 
 pub slice_bounds-parse-end-2 : goal.slice_bounds-parse-end-2
 unfolding writes
@@ -33,6 +32,4 @@ slice_bounds-verdict-end-2 c = sym (length-take-le _ _ (written_within _ _ (type
 pub returns : goal.returns
 unfolding writes
 returns c =
-    let p = c in
-    let w = p in
-    read _ _ (typed (goal.at.returns c).Start) _ _ w.write_info-reply.ensures _ _ _ p.parse-parsed.ensures c.verdict-verdict.ensures
+    read _ _ (typed (goal.at.returns c).Start) _ _ c.write_info-reply.ensures _ _ _ c.parse-parsed.ensures c.verdict-verdict.ensures

@@ -14,10 +14,5 @@ copy-requires-4 c = search rules
 
 pub returns : goal.returns
 returns c =
-    let fourth = c in
-    let third = fourth in
-    let second = third in
-    let first = second in
-    let numbers = first in
-    fields_laid numbers.args.d _ _ _ _ _ _ numbers.requires numbers.numbers-n.ensures
-    first.copy.ensures second.copy-2.ensures third.copy-3.ensures fourth.copy-4.ensures c.put_le32.ensures
+    fields_laid c.args.d _ _ _ _ _ _ c.requires c.numbers-n.ensures
+    c.copy.ensures c.copy-2.ensures c.copy-3.ensures c.copy-4.ensures c.put_le32.ensures

@@ -4,6 +4,5 @@ use Rattle.crossing.proofs.numbers.sixteen.Goals as goal
 
 pub returns : goal.returns
 returns c =
-    let first = c in
-    let a = first.args in
-    sixteen_laid a.low a.high _ _ first.put_le64.ensures c.put_le64-2.ensures
+    let a = c.args in
+    sixteen_laid a.low a.high _ _ c.put_le64.ensures c.put_le64-2.ensures

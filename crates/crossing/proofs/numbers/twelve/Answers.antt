@@ -4,6 +4,5 @@ use Rattle.crossing.proofs.numbers.twelve.Goals as goal
 
 pub returns : goal.returns
 returns c =
-    let all = c in
-    let a = all.args in
-    twelve_laid a.low a.high _ _ all.sixteen-all.ensures c.copy.ensures
+    let a = c.args in
+    twelve_laid a.low a.high _ _ c.sixteen-all.ensures c.copy.ensures

@@ -1,6 +1,5 @@
 -- One byte more is masked a turn.
 use mathlib.Core.Path.{◌≡◌}
-use Prim.Native.Nat.{◌-◌}
 use native.Mathlib.Omega.{arith}
 use borrow.Author.Rules.{rules}
 use lib.ListN.{length}
@@ -12,14 +11,12 @@ loop-i-init c = (omega arith, masked_none _ _)
 
 pub loop-i-preserved : goal.loop-i-preserved
 loop-i-preserved c =
-    let l = c in
-    let b = l.args.b in
+    let b = c.args.b in
     let n : length b ≡ 20 = search rules in
-    (omega arith, masked_more l.args.c b l.loop-i.m l.loop-i.i n (omega arith) l.loop-i.invariant.1)
+    (omega arith, masked_more c.args.c b c.loop-i.m c.loop-i.i n (omega arith) c.loop-i.invariant.1)
 
 pub returns : goal.returns
 returns c =
-    let l = c in
-    let b = l.args.b in
+    let b = c.args.b in
     let n : length b ≡ 20 = search rules in
-    masked_all l.args.c b l.loop-i.m l.loop-i.i n (omega arith) l.loop-i.invariant.1
+    masked_all c.args.c b c.loop-i.m c.loop-i.i n (omega arith) c.loop-i.invariant.1

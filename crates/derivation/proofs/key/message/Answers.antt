@@ -1,7 +1,6 @@
 -- The salt, then one unit more a turn.
 use mathlib.Core.Path.{◌≡◌, refl, ◌∙◌}
 use mathlib.Core.List.{[]}
-use Prim.Native.Nat.{◌-◌}
 use native.Mathlib.Omega.{arith}
 use borrow.Author.Rules.{rules}
 use lib.ListN.{length, replicate}
@@ -20,21 +19,18 @@ loop-i-init c =
 
 pub loop-i-preserved : goal.loop-i-preserved
 loop-i-preserved c =
-    let l = c in
     let p = c.args.password.now in
     let z = c.copy in (
       omega arith,
       (
-        c.put_le16.auto.d ∙ l.loop-i.invariant.1.0,
-        each_next (le_bytes 2) (length_le_bytes 2) z.new.d p 16 l.loop-i.i _ (omega arith) (omega (arith, z.auto.d)) refl l.loop-i.invariant.1.1 c.put_le16.ensures,
+        c.put_le16.auto.d ∙ c.loop-i.invariant.1.0,
+        each_next (le_bytes 2) (length_le_bytes 2) z.new.d p 16 c.loop-i.i _ (omega arith) (omega (arith, z.auto.d)) refl c.loop-i.invariant.1.1 c.put_le16.ensures,
       ),
     )
 
 pub returns : goal.returns
 returns c =
-    let l = c in
-    let s = c in
     let z = c.copy in
-    let salt : length s.args.salt ≡ 16 = search rules in
-    message_law s.args.salt s.args.password.now (replicate 526 0) z.new.d l.loop-i.b l.loop-i.i salt (omega arith) (omega arith)
-    z.ensures l.loop-i.invariant.1.1
+    let salt : length c.args.salt ≡ 16 = search rules in
+    message_law c.args.salt c.args.password.now (replicate 526 0) z.new.d c.loop-i.b c.loop-i.i salt (omega arith) (omega arith)
+    z.ensures c.loop-i.invariant.1.1

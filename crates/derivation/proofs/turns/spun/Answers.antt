@@ -1,6 +1,5 @@
 -- Each turn is the definition's, on the five words before it.
 use mathlib.Core.Path.{◌≡◌, refl, sym, ap, ◌∙◌}
-use Prim.Native.Nat.{◌-◌}
 use native.Mathlib.Omega.{arith}
 use Rattle.derivation.specs.Key.{turn, turns, spins}
 use Rattle.derivation.proofs.Words.{turns_more}
@@ -12,8 +11,7 @@ loop-i-init c = (omega arith, refl)
 
 pub loop-i-preserved : goal.loop-i-preserved
 loop-i-preserved c =
-    let l = c in
-    (omega arith, c.next-h.ensures ∙ ap (turn l.loop-i.i) l.loop-i.invariant.1 ∙ sym (turns_more l.loop-i.i _))
+    (omega arith, c.next-h.ensures ∙ ap (turn c.loop-i.i) c.loop-i.invariant.1 ∙ sym (turns_more c.loop-i.i _))
 
 pub returns : goal.returns
 unfolding spins

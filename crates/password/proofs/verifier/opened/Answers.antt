@@ -10,15 +10,13 @@ use Rattle.password.proofs.verifier.opened.Goals as goal
 
 pub decrypt-requires : goal.decrypt-requires
 decrypt-requires c =
-    let st = c in
-    let l : length st.args.fields ≡ 48 = search rules in
+    let l : length c.args.fields ≡ 48 = search rules in
     let z = ap (λ (p : Place). p.number) c.start.ensures in
     let s = ap (λ (m : Mode). m.size) c.ecb.ensures in
-    record { rounds_nonzero = st.requires; size_bound = (omega arith, search rules, omega arith, omega arith) }
+    record { rounds_nonzero = c.requires; size_bound = (omega arith, search rules, omega arith, omega arith) }
 
 pub returns : goal.returns
 returns c =
-    let b = c in
-    let a = b.args in
+    let a = c.args in
     let l : length a.fields ≡ 48 = search rules in
-    λ k t e. opened_law a.key _ _ k a.fields _ t e b.ecb.ensures b.start.ensures l c.decrypt.ensures
+    λ k t e. opened_law a.key _ _ k a.fields _ t e c.ecb.ensures c.start.ensures l c.decrypt.ensures

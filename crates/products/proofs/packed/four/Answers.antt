@@ -9,10 +9,8 @@ use Rattle.products.proofs.packed.four.Goals as goal
 pub returns : goal.returns
 unfolding le_at
 returns c =
-    let known = c in
-    let st = known in
-    let s = st.args.s.now in
-    let at = st.args.at in (
-      c.word.ensures ∙ ap le (word_read s at st.requires),
-      take_below 4 (drop at s) (drop_below at s (record { at = λ i. (known.shared_slice_known-1.given i).fits })),
+    let s = c.args.s.now in
+    let at = c.args.at in (
+      c.word.ensures ∙ ap le (word_read s at c.requires),
+      take_below 4 (drop at s) (drop_below at s (record { at = λ i. (c.shared_slice_known-1.given i).fits })),
     )

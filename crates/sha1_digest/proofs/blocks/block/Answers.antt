@@ -1,6 +1,5 @@
 -- Each turn reads one word more.
 use mathlib.Core.Path.{◌≡◌, refl, sym, ap, ◌∙◌}
-use Prim.Native.Nat.{◌-◌}
 use native.Mathlib.Omega.{arith}
 use lib.ListN.{length-set}
 use lib.Seq.{take_all}
@@ -14,12 +13,10 @@ loop-t-init c = (omega arith, (refl, refl))
 
 pub loop-t-preserved : goal.loop-t-preserved
 loop-t-preserved c =
-    let l = c in
-    let a = l.args in
-    (omega arith, (rw length-set l.loop-t.invariant.1.0, block_more a.p.now l.loop-t.m a.at l.loop-t.t _ (omega arith) l.loop-t.invariant.1.1 c.be32.ensures))
+    let a = c.args in
+    (omega arith, (rw length-set c.loop-t.invariant.1.0, block_more a.p.now c.loop-t.m a.at c.loop-t.t _ (omega arith) c.loop-t.invariant.1.1 c.be32.ensures))
 
 pub returns : goal.returns
 returns c =
-    let l = c in
-    let e : l.loop-t.t ≡ 16 = omega arith in
-    sym (take_all l.loop-t.t l.loop-t.m (omega arith)) ∙ l.loop-t.invariant.1.1 ∙ ap (fips.block_words _ _) e
+    let e : c.loop-t.t ≡ 16 = omega arith in
+    sym (take_all c.loop-t.t c.loop-t.m (omega arith)) ∙ c.loop-t.invariant.1.1 ∙ ap (fips.block_words _ _) e

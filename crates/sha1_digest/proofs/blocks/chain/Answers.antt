@@ -1,6 +1,5 @@
 -- Each turn compresses one block more of the padded message.
 use mathlib.Core.Path.{◌≡◌, sym, ap₂, ◌∙◌}
-use Prim.Native.Nat.{◌-◌}
 use native.Mathlib.Omega.{arith}
 use Rattle.sha1_digest.specs.Sha1 as fips
 use Rattle.sha1_digest.proofs.Chains.{chain_none, chain_more}
@@ -17,9 +16,8 @@ compress-s-requires c = c.round_words-k.ensures
 
 pub loop-i-preserved : goal.loop-i-preserved
 loop-i-preserved c =
-    let l = c in
     let m = c.args.m.now in
-    (omega arith, c.compress-s.ensures ∙ ap₂ fips.compress l.loop-i.invariant.1 c.padded_block-words.ensures ∙ sym (chain_more (fips.pad m) l.loop-i.i fips.start))
+    (omega arith, c.compress-s.ensures ∙ ap₂ fips.compress c.loop-i.invariant.1 c.padded_block-words.ensures ∙ sym (chain_more (fips.pad m) c.loop-i.i fips.start))
 
 pub returns : goal.returns
 returns c =

@@ -15,5 +15,4 @@ block-requires-2 c = omega (arith, length_pad c.args.m.now, c.requires.0.long)
 
 pub returns : goal.returns
 returns c =
-    let s = c in
-    c.block-2.ensures ∙ ending_block s.args.m.now s.args.tail.now s.args.i s.requires.0 (omega arith) s.requires.1
+    c.block-2.ensures ∙ ending_block c.args.m.now c.args.tail.now c.args.i c.requires.0 (omega arith) c.requires.1

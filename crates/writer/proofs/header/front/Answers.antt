@@ -14,10 +14,7 @@ overflow_add-fields c = search rules
 
 pub returns : goal.returns
 returns c =
-    let second = c in
-    let first = second in
-    let rest = first in
-    let a = rest.args in
+    let a = c.args in
     λ k name salt v filling l.
-    front_laid a.bits.0 a.name _ k name salt v filling _ _ _ _ l rest.alg_id_of.ensures rest.numbers-rest.ensures first.put_le16.ensures
-    second.put_le16-2.ensures c.copy.ensures
+    front_laid a.bits.0 a.name _ k name salt v filling _ _ _ _ l c.alg_id_of.ensures c.numbers-rest.ensures c.put_le16.ensures
+    c.put_le16-2.ensures c.copy.ensures

@@ -16,16 +16,14 @@ loop-i-init c = (omega arith, refl, paste-zero (replicate 40 0) 0 (flat_map (le_
 
 pub loop-i-preserved : goal.loop-i-preserved
 loop-i-preserved c =
-    let l = c in
-    let n : length l.args.ns ≡ 10 = search rules in (
+    let n : length c.args.ns ≡ 10 = search rules in (
       omega arith,
-      c.put_le32.auto.d ∙ l.loop-i.invariant.1,
-      each_next (le_bytes 4) (length_le_bytes 4) (replicate 40 0) l.args.ns 0 l.loop-i.i (4 * l.loop-i.i) (omega arith) (omega arith) (omega arith)
-          l.loop-i.invariant.2 c.put_le32.ensures,
+      c.put_le32.auto.d ∙ c.loop-i.invariant.1,
+      each_next (le_bytes 4) (length_le_bytes 4) (replicate 40 0) c.args.ns 0 c.loop-i.i (4 * c.loop-i.i) (omega arith) (omega arith) (omega arith)
+          c.loop-i.invariant.2 c.put_le32.ensures,
     )
 
 pub returns : goal.returns
 returns c =
-    let l = c in
-    let n : length l.args.ns ≡ 10 = search rules in
-    each_whole (le_bytes 4) (length_le_bytes 4) (replicate 40 0) l.args.ns l.loop-i.i (omega arith) (omega arith) l.loop-i.invariant.2
+    let n : length c.args.ns ≡ 10 = search rules in
+    each_whole (le_bytes 4) (length_le_bytes 4) (replicate 40 0) c.args.ns c.loop-i.i (omega arith) (omega arith) c.loop-i.invariant.2

@@ -7,8 +7,7 @@ use Rattle.writer.proofs.verifier.plain.Goals as goal
 
 pub returns : goal.returns
 returns c =
-    let o = c in
-    let a = o.args in
+    let a = c.args in
     let v : length a.verifier ≡ 16 = search rules in
     let f : length a.filling ≡ 12 = search rules in
-    plain_laid _ a.verifier a.filling _ _ _ (o.output-digest.ensures ∙ o.hash.ensures) v f c.copy.ensures c.copy-2.ensures c.copy-3.ensures
+    plain_laid _ a.verifier a.filling _ _ _ (c.output-digest.ensures ∙ c.hash.ensures) v f c.copy.ensures c.copy-2.ensures c.copy-3.ensures

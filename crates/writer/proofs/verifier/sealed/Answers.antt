@@ -10,15 +10,13 @@ use Rattle.writer.proofs.verifier.sealed.Goals as goal
 
 pub encrypt-requires : goal.encrypt-requires
 encrypt-requires c =
-    let st = c in
-    let l : length st.args.plain ≡ 48 = search rules in
+    let l : length c.args.plain ≡ 48 = search rules in
     let z = ap (λ (p : Place). p.number) c.start.ensures in
     let s = ap (λ (m : Mode). m.size) c.ecb.ensures in
-    record { rounds_nonzero = st.requires; size_value = (search rules, omega arith, search rules, omega arith, omega arith) }
+    record { rounds_nonzero = c.requires; size_value = (search rules, omega arith, search rules, omega arith, omega arith) }
 
 pub returns : goal.returns
 returns c =
-    let b = c in
-    let a = b.args in
+    let a = c.args in
     let l : length a.plain ≡ 48 = search rules in
-    λ k t e. sealed_laid a.key _ _ k a.plain (replicate 16 0) _ t e b.ecb.ensures b.start.ensures l c.encrypt.ensures
+    λ k t e. sealed_laid a.key _ _ k a.plain (replicate 16 0) _ t e c.ecb.ensures c.start.ensures l c.encrypt.ensures
