@@ -1,8 +1,6 @@
 -- The two ways out of `stretched`: a refusal by the first broken rule, and those bytes of the package.
 use mathlib.Core.Path.{◌≡◌, refl, sym, ap, ap₂, ◌∙◌}
-use Prim.Native.Nat.{◌-◌}
 use native.Mathlib.Omega.{arith}
-use borrow.Author.Rules.{rules}
 use lib.ListN.{length, length-drop}
 use Rattle.answers.specs.Rules.{first_of, after}
 use Rattle.answers.proofs.Endings.{refusal}
