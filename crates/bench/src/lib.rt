@@ -2,7 +2,7 @@
 
 #![tactic(auto)]
 
-mod blocks;
+mod in_place;
 
 // The first eight bytes of a hash, as a number.
 #[unsafe(no_mangle)]
@@ -26,7 +26,7 @@ pub extern "C" fn bench_encrypt(key: &[u8], buf: &mut [u8]) -> u64 {
     let w = e.bytes;
     let table = aes::tables::SBOX;
     let words = aes_stream::forward(&table);
-    blocks::encrypt(&w, rounds, &table, &words, buf);
+    in_place::encrypt(&w, rounds, &table, &words, buf);
     0
 }
 
@@ -46,7 +46,7 @@ pub extern "C" fn bench_decrypt(key: &[u8], buf: &mut [u8]) -> u64 {
     let shares = products::shares();
     let words = aes_stream::inverse(&table, &shares);
     let mixed = aes_stream::mixed(&w, &shares);
-    blocks::decrypt(&w, &mixed, rounds, &table, &words, buf);
+    in_place::decrypt(&w, &mixed, rounds, &table, &words, buf);
     0
 }
 
