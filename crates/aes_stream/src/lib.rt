@@ -26,7 +26,7 @@ mod rounds;
 mod words;
 
 use aes_rounds::{add_round_key, inv_mix_columns, inv_shift_rows, shift_rows, sub_bytes};
-pub use words::{forward, inverse};
+pub use words::{forward, inverse, lay_forward, lay_inverse};
 
 // Every round key through InvMixColumns.
 pub fn mixed(w: &[u8; 240], shares: &[u32; 256]) -> [u8; 240]

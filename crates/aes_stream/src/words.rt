@@ -36,33 +36,52 @@ fn in_row(k: usize, x: u32) -> u32
     moved(k as u32, x)
 }
 
-// The shares, each at the byte that is substituted by its own: once for each row, in four tables one behind the other.
-fn substituted(table: &[u8; 256], shares: &[u32; 256]) -> [u32; 1024]
+// The shares, each at the byte that is substituted by its own: once for each row, in four tables one behind the other. They are written
+// where they are to lie: 4,096 bytes that are returned lie on the stack twice.
+fn substituted(table: &[u8; 256], shares: &[u32; 256], words: &mut [u32; 1024])
     requires { (length table.now ≡ 256) × (length shares.now ≡ 256) }
-    ensures { (p q s t : ℕ) → Bytes table.now → Laid p q s t (λ x. x) shares.now → Words.Rows p q s t (Tables.look table.now) result }
+    ensures { (p q s t : ℕ) → Bytes table.now → Laid p q s t (λ x. x) shares.now → Words.Rows p q s t (Tables.look table.now) words.new }
 {
-    let mut words = [0u32; 1024];
     let mut i = 0;
     while i < 1024 {
         words[i] = in_row(i / 256, share(shares, table[i % 256]));
         i += 1;
     }
-    words
 }
 
-// The words of the cipher, from the substitution table.
+// The words of the cipher, from the substitution table, written over others.
+pub fn lay_forward(table: &[u8; 256], words: &mut [u32; 1024])
+    requires { table.now ≡ Tables.sbox }
+    ensures { Words.Forward words.new }
+{
+    let mix = shares();
+    substituted(table, &mix, words);
+}
+
+// The words of the inverse cipher, from the inverse table and the shares of InvMixColumns, written over others.
+pub fn lay_inverse(table: &[u8; 256], shares: &[u32; 256], words: &mut [u32; 1024])
+    requires { (table.now ≡ Tables.inv_sbox) × Shares shares.now }
+    ensures { Words.Inverse words.new }
+{
+    substituted(table, shares, words);
+}
+
+// The words of the cipher, by themselves.
 pub fn forward(table: &[u8; 256]) -> [u32; 1024]
     requires { table.now ≡ Tables.sbox }
     ensures { Words.Forward result }
 {
-    let mix = shares();
-    substituted(table, &mix)
+    let mut words = [0u32; 1024];
+    lay_forward(table, &mut words);
+    words
 }
 
-// The words of the inverse cipher, from the inverse table and the shares of InvMixColumns.
+// The words of the inverse cipher, by themselves.
 pub fn inverse(table: &[u8; 256], shares: &[u32; 256]) -> [u32; 1024]
     requires { (table.now ≡ Tables.inv_sbox) × Shares shares.now }
     ensures { Words.Inverse result }
 {
-    substituted(table, shares)
+    let mut words = [0u32; 1024];
+    lay_inverse(table, shares, &mut words);
+    words
 }

@@ -12,6 +12,7 @@ ghost use Rattle.std.specs.Prelude.{◌≡◌, ◌++◌, ◌+◌, ◌*◌, ◌/�
 ghost use Rattle.std.proofs.Math.Seq.{paste};
 ghost use Rattle.fips197.specs.Tables.{sbox, inv_sbox};
 ghost use Rattle.fips197.specs.Cipher.{inv_mix_columns, cipher};
+ghost use Rattle.fips197.specs.Products.{Shares};
 ghost use Rattle.aes_stream.specs.Words.{Forward, Inverse};
 ghost use Rattle.steps.specs.Steps.{open_all, seal_all};
 ghost use Rattle.blocks.specs.Blocks.{step_by, step_from};
@@ -158,6 +159,39 @@ fn decrypt_with(
     }
 }
 
+// `decrypt`, with the key and the shares lent.
+fn decrypt_by(
+    w: &[u8; 240],
+    rounds: usize,
+    shares: &[u32; 256],
+    mode: Mode,
+    place: Place,
+    src: &[u8],
+    size: usize,
+    out: &mut [u8],
+)
+    requires rounds_nonzero { (0 < rounds) × (rounds ≤ 14) × (length w.now ≡ 240) }
+    requires shares_value { Shares shares.now }
+    requires size_bound { (size ≤ 16 * (length src.now / 16)) × (size ≤ length out.old) × (place.number + size < 2 ^ 64) × (mode.size < 2 ^ 44) }
+    ensures { out.new ≡ paste out.old 0 (open_all (step_from place mode w.now rounds) src.now) size }
+{
+    let table = tables::INV_SBOX;
+    let mut words = [0u32; 1024];
+    aes_stream::lay_inverse(&table, shares, &mut words);
+    decrypt_with(
+        w,
+        &aes_stream::mixed(w, shares),
+        rounds,
+        &table,
+        &words,
+        mode,
+        place,
+        src,
+        size,
+        out,
+    );
+}
+
 // The first `size` bytes of the blocks of src, decrypted, at the front of out. The first of them is the one at the place. A last block of
 // which less is wanted is cut.
 pub fn decrypt(key: Expanded, mode: Mode, place: Place, src: &[u8], size: usize, out: &mut [u8])
@@ -166,12 +200,15 @@ pub fn decrypt(key: Expanded, mode: Mode, place: Place, src: &[u8], size: usize,
     ensures { out.new ≡ paste out.old 0 (open_all (step_from place mode key.bytes key.rounds) src.now) size }
 {
     let w = key.bytes;
-    let table = tables::INV_SBOX;
-    let shares = products::shares();
-    let words = aes_stream::inverse(&table, &shares);
-    let mixed = aes_stream::mixed(&w, &shares);
-    decrypt_with(
-        &w, &mixed, key.rounds, &table, &words, mode, place, src, size, out,
+    decrypt_by(
+        &w,
+        key.rounds,
+        &products::shares(),
+        mode,
+        place,
+        src,
+        size,
+        out,
     );
 }
 
@@ -245,7 +282,8 @@ pub fn encrypt(
 {
     let w = key.bytes;
     let table = tables::SBOX;
-    let words = aes_stream::forward(&table);
+    let mut words = [0u32; 1024];
+    aes_stream::lay_forward(&table, &mut words);
     encrypt_with(
         &w, key.rounds, &table, &words, mode, place, src, &filling, size, out, at,
     );

@@ -37,11 +37,8 @@ fn laid(first: &[u8; 256], second: &[u8; 256], third: &[u8; 256], fourth: &[u8; 
 pub fn shares() -> [u32; 256]
     ensures { Products.Shares result }
 {
-    let nine = by_9::BY_9;
-    let eleven = by_11::BY_11;
-    let thirteen = by_13::BY_13;
-    let fourteen = by_14::BY_14;
-    laid(&fourteen, &nine, &thirteen, &eleven)
+    // each table as it is lent: a local of its own would be copied on the stack once more
+    laid(&by_14::BY_14, &by_9::BY_9, &by_13::BY_13, &by_11::BY_11)
 }
 
 // A byte as a place in a table.

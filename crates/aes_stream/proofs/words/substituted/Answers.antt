@@ -1,5 +1,5 @@
 -- Each turn lays one word more, in the table of its row.
-use mathlib.Core.Path.{refl, ap, subst⁻¹, ◌∙◌}
+use mathlib.Core.Path.{ap, subst⁻¹, ◌∙◌}
 use Prim.Native.Nat.{◌/◌, ◌<◌}
 use native.Mathlib.Omega.{arith}
 use Rattle.fips197.specs.Tables.{look}
@@ -10,7 +10,7 @@ use Rattle.aes_stream.proofs.Tables.{at, by_table}
 use Rattle.aes_stream.proofs.words.substituted.Goals as goal
 
 pub loop-i-init : goal.loop-i-init
-loop-i-init c = filled_none 1024 _ _ refl
+loop-i-init c = filled_none 1024 _ _ c.told-words
 
 pub loop-i-preserved : goal.loop-i-preserved
 loop-i-preserved c =

@@ -5,7 +5,7 @@ use Rattle.octets.specs.Octets.{Bytes}
 use Rattle.fips197.specs.Tables.{look}
 use Rattle.fips197.proofs.Entries.{length_sbox, sbox_bytes}
 use Rattle.aes_stream.specs.Words.{Rows}
-use Rattle.aes_stream.proofs.words.forward.Goals as goal
+use Rattle.aes_stream.proofs.words.lay_forward.Goals as goal
 
 pub substituted-requires : goal.substituted-requires
 substituted-requires c = (ap length c.requires ∙ length_sbox, c.shares-mix.ensures.long)
@@ -13,5 +13,5 @@ substituted-requires c = (ap length c.requires ∙ length_sbox, c.shares-mix.ens
 pub returns : goal.returns
 returns c =
     let p = c.requires in
-    subst (λ t. Rows 2 3 1 1 (look t) c.substituted.result) p
+    subst (λ t. Rows 2 3 1 1 (look t) c.substituted.new.words) p
     (c.substituted.ensures 2 3 1 1 (subst⁻¹ Bytes p sbox_bytes) c.shares-mix.ensures)

@@ -5,7 +5,7 @@ use Rattle.octets.specs.Octets.{Bytes}
 use Rattle.fips197.specs.Tables.{look}
 use Rattle.fips197.proofs.Entries.{length_inv_sbox, inv_sbox_bytes}
 use Rattle.aes_stream.specs.Words.{Rows}
-use Rattle.aes_stream.proofs.words.inverse.Goals as goal
+use Rattle.aes_stream.proofs.words.lay_inverse.Goals as goal
 
 pub substituted-requires : goal.substituted-requires
 substituted-requires c = (ap length c.requires.0 ∙ length_inv_sbox, c.requires.1.long)
@@ -13,4 +13,4 @@ substituted-requires c = (ap length c.requires.0 ∙ length_inv_sbox, c.requires
 pub returns : goal.returns
 returns c =
     let p = c.requires in
-    subst (λ t. Rows 14 11 13 9 (look t) c.substituted.result) p.0 (c.substituted.ensures 14 11 13 9 (subst⁻¹ Bytes p.0 inv_sbox_bytes) p.1)
+    subst (λ t. Rows 14 11 13 9 (look t) c.substituted.new.words) p.0 (c.substituted.ensures 14 11 13 9 (subst⁻¹ Bytes p.0 inv_sbox_bytes) p.1)
