@@ -1,5 +1,5 @@
 -- The words are laid once and the round keys mixed once, of the shares that are lent.
-use mathlib.Core.Path.{◌≡◌, refl}
+use mathlib.Core.Path.{refl}
 use Rattle.fips197.specs.Tables.{inv_sbox}
 use Rattle.blocks.proofs.decrypt_by.Goals as goal
 

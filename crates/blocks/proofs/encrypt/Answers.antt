@@ -1,5 +1,5 @@
 -- The key, the table and the filling are copied once, the words laid once, and all are lent.
-use mathlib.Core.Path.{◌≡◌, refl}
+use mathlib.Core.Path.{refl}
 use Rattle.fips197.specs.Tables.{sbox}
 use Rattle.blocks.proofs.encrypt.Goals as goal
 
