@@ -61,7 +61,7 @@ fn make_beside<R: Files>(rt: &R) -> io::Result<(&'static str, R::File)>
     Ok((name, make(rt, name)?))
 }
 
-// Writes all the bytes, as far as the device, and closes the file.
+// Writes all the bytes, as far as the device. The file is closed as it is let go, which tells nothing.
 fn fill(mut file: impl Write + OpenFile + Drop, bytes: &[u8]) -> io::Result<()> {
     file.write_all(bytes)?;
     file.sync_all()
