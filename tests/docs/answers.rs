@@ -1,12 +1,20 @@
-//! The header's answers beside the constants of crates/answers, both ways, and its schemes beside those of crates/descriptor.
+//! The header's answers beside the refusals of crates/answers and their numbers in the definitions, each both ways, and its schemes beside
+//! those of crates/descriptor.
 use crate::{repo::Repo, Report};
 
 const HEADER: &str = "include/ropeshadow.h";
 const CRATE: &str = "crates/answers/src/lib.rt";
+const NUMBERS: &str = "crates/answers/specs/Refusals.antt";
 const SCHEMES: &str = "crates/descriptor/src/lib.rt";
 
 /// How the header's comment on its schemes begins; the answers stand before it.
 const SCHEMES_BEGIN: &str = "/* The schemes:";
+
+/// The refusals stand between this line and the brace that closes it.
+const REFUSALS: &str = "pub enum Refusal {";
+
+/// The header's answer that is no refusal.
+const DONE: &str = "DONE";
 
 /// Answers of the program alone, which the library never gives (01, no. 17).
 const PROGRAM_ALONE: [&str; 1] = ["FILES"];
@@ -29,6 +37,29 @@ fn read(text: &str, before: &str) -> Vec<Answer> {
     text.lines().enumerate().filter_map(|(at, line)| answer(line, at, before)).collect()
 }
 
+/// `INFO_SHORT` of `InfoShort`.
+fn shouted(name: &str) -> String {
+    let mut out = String::new();
+    for c in name.chars() {
+        if c.is_uppercase() && !out.is_empty() {
+            out.push('_');
+        }
+        out.push(c.to_ascii_uppercase());
+    }
+    out
+}
+
+/// The same under the header's names.
+fn as_header(answers: Vec<Answer>) -> Vec<Answer> {
+    answers.into_iter().map(|a| Answer { name: shouted(&a.name), ..a }).collect()
+}
+
+/// The variants of `Refusal`.
+fn refusals(text: &str) -> Vec<Answer> {
+    let lines = text.lines().enumerate().skip_while(|(_, line)| *line != REFUSALS).take_while(|(_, line)| *line != "}");
+    as_header(lines.filter(|(_, line)| !line.trim().starts_with("//")).filter_map(|(at, line)| answer(line, at, "")).collect())
+}
+
 /// Each of `these` has its like in `those`.
 fn alike(these: &[Answer], of: &str, those: &[Answer], other: &str, report: &mut Report) {
     for a in these.iter().filter(|a| !PROGRAM_ALONE.contains(&a.name.as_str())) {
@@ -46,12 +77,20 @@ pub fn check(repo: &Repo, report: &mut Report) -> usize {
     let mut header = read(repo.text(HEADER), "ROPESHADOW_");
     let end = repo.text(HEADER).lines().position(|line| line.starts_with(SCHEMES_BEGIN)).unwrap_or(usize::MAX);
     let schemes = header.split_off(header.partition_point(|a| a.line <= end));
-    let constants = read(repo.text(CRATE), "pub const ");
-    alike(&header, HEADER, &constants, CRATE, report);
-    alike(&constants, CRATE, &header, HEADER, report);
+    let refusals = refusals(repo.text(CRATE));
+    let numbers = as_header(read(repo.text(NUMBERS), "number "));
+    let done = header.iter().find(|a| a.name == DONE).map(|a| (a.line, a.number.clone()));
+    if let Some((line, _)) = done.filter(|(_, number)| number != "0") {
+        report.fault(HEADER, line, format!("{DONE} is not 0"));
+    }
+    header.retain(|a| a.name != DONE);
+    alike(&header, HEADER, &refusals, CRATE, report);
+    alike(&refusals, CRATE, &header, HEADER, report);
+    alike(&refusals, CRATE, &numbers, NUMBERS, report);
+    alike(&numbers, NUMBERS, &refusals, CRATE, report);
     alike(&schemes, HEADER, &read(repo.text(SCHEMES), "pub const "), SCHEMES, report);
     for a in header.iter().filter(|a| PROGRAM_ALONE.contains(&a.name.as_str())) {
         report.fault(HEADER, a.line, format!("answer {} is the program's alone", a.name));
     }
-    constants.len()
+    refusals.len()
 }

@@ -1,12 +1,12 @@
 //! A function's declaration in the words of a page: `out` is what a lent slice holds before the call and `out'` what it holds after,
 //! and a definition's name stands without its file's.
 
-/// What a clause projects from: the result, the parameters and what a clause binds.
+/// What a clause projects from: the result, a method's value, the parameters and what a clause binds.
 fn values(declaration: &str) -> Vec<&str> {
     let name = |c: char| !(c.is_alphanumeric() || c == '_');
     let parameters = declaration.split(':').filter_map(|part| part.rsplit(name).next());
     let bound = declaration.split("λ ").skip(1).filter_map(|part| part.split('.').next()).flat_map(str::split_whitespace);
-    ["result"].into_iter().chain(parameters).chain(bound).filter(|n| !n.is_empty()).collect()
+    ["result", "self"].into_iter().chain(parameters).chain(bound).filter(|n| !n.is_empty()).collect()
 }
 
 /// The words and signs of a text.

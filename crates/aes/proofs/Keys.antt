@@ -16,9 +16,8 @@ use Rattle.answers.specs.Rules.{OneOf}
 use Rattle.answers.proofs.Laws.{either}
 use Rattle.fips197.specs.Cipher.{round_key, cipher, inv_cipher}
 use Rattle.fips197.specs.Expansion.{rounds_for, schedule}
-use Rattle.aes.specs.Aes.{key_length, round_count, words_of, encryption, decryption, done_block, refused_block, encrypted, decrypted, expanded, encrypted_by, decrypted_by}
+use Rattle.aes.specs.Aes.{BlockReply, key_length, round_count, words_of, encryption, decryption, done_block, refused_block, encrypted, decrypted, expanded, encrypted_by, decrypted_by}
 use Rattle.aes.specs.declared.Expanded.{Expanded}
-use Rattle.aes.specs.declared.Reply.{Reply}
 use Rattle.fips197.proofs.States.{round_key_bytes}
 use Rattle.fips197.proofs.Schedule.{length_schedule, schedule_bytes}
 use Rattle.fips197.proofs.Undo.{inv_cipher_cipher, cipher_inv_cipher, length_cipher, length_inv_cipher, cipher_bytes, inv_cipher_bytes, cipher_same, inv_cipher_same}
@@ -102,7 +101,7 @@ round_key_front w z r h =
 -- ---- both directions: a block by the cipher f
 
 -- under an expanded key
-abbrev by : ((ℕ → List ℕ) → ℕ → List ℕ → List ℕ) → List ℕ → Expanded → Reply
+abbrev by : ((ℕ → List ℕ) → ℕ → List ℕ → List ℕ) → List ℕ → Expanded → BlockReply
 by f s e = cond (round_count e.rounds) (done_block (f (round_key e.bytes) e.rounds s)) refused_block
 
 module _ (f : (ℕ → List ℕ) → ℕ → List ℕ → List ℕ) (s : List ℕ) (e : Expanded) where
@@ -110,7 +109,7 @@ module _ (f : (ℕ → List ℕ) → ℕ → List ℕ → List ℕ) (s : List �
   unfolding round_count
   answered r l q = rw (q, listed e.rounds 10 12 14 l)
 
-  pub unanswered : (r : Reply) → (Listed e.rounds 10 12 14 → ⊥) → r ≡ refused_block → r ≡ by f s e
+  pub unanswered : (r : BlockReply) → (Listed e.rounds 10 12 14 → ⊥) → r ≡ refused_block → r ≡ by f s e
   unfolding round_count
   unanswered r l q = rw (q, unlisted e.rounds 10 12 14 l)
 
@@ -232,11 +231,11 @@ module _ (k : List ℕ) where
       -- and of those under the expanded key
       pub encrypted_block : (encrypted_by (expanded k) s).block ≡ encryption k s
       unfolding done_block
-      encrypted_block = ap (λ (r : Reply). r.block) (encrypted_expanded k s ∙ encrypted_fit)
+      encrypted_block = ap (λ (r : BlockReply). r.block) (encrypted_expanded k s ∙ encrypted_fit)
 
       pub decrypted_block : (decrypted_by (expanded k) s).block ≡ decryption k s
       unfolding done_block
-      decrypted_block = ap (λ (r : Reply). r.block) (decrypted_expanded k s ∙ decrypted_fit)
+      decrypted_block = ap (λ (r : BlockReply). r.block) (decrypted_expanded k s ∙ decrypted_fit)
 
     module _ (t : key_length (length k) ≡ false) where
       pub encrypted_other : encrypted k s ≡ refused_block
@@ -252,9 +251,9 @@ module _ (k s : List ℕ) (t : key_length (length k) ≡ true) (h : length s ≡
   pub decrypted_encrypted : decrypted k (encrypted k s).block ≡ done_block s
   unfolding done_block
   decrypted_encrypted =
-      ap (λ (r : Reply). decrypted k r.block) (encrypted_fit k s t) ∙ decrypted_fit k (encryption k s) t ∙ ap done_block (decryption_encryption k s h)
+      ap (λ (r : BlockReply). decrypted k r.block) (encrypted_fit k s t) ∙ decrypted_fit k (encryption k s) t ∙ ap done_block (decryption_encryption k s h)
 
   pub encrypted_decrypted : encrypted k (decrypted k s).block ≡ done_block s
   unfolding done_block
   encrypted_decrypted =
-      ap (λ (r : Reply). encrypted k r.block) (decrypted_fit k s t) ∙ encrypted_fit k (decryption k s) t ∙ ap done_block (encryption_decryption k s h)
+      ap (λ (r : BlockReply). encrypted k r.block) (decrypted_fit k s t) ∙ encrypted_fit k (decryption k s) t ∙ ap done_block (encryption_decryption k s h)

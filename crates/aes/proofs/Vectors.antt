@@ -9,8 +9,7 @@ use Rattle.fips197.specs.Field.{xor, double, bit, mul_by, mul}
 use Rattle.fips197.specs.Tables.{look, sbox, round_constants, round_constant}
 use Rattle.fips197.specs.Cipher.{sub_bytes, tabulate, shift, shift_rows, row, columns, mix_columns, add_round_key, round_key, round, rounds, cipher}
 use Rattle.fips197.specs.Expansion.{key_word, rot_word, turned, next, longer_key, extended, rounds_for, schedule}
-use Rattle.aes.specs.declared.Reply.{Reply}
-use Rattle.aes.specs.Aes.{key_length, words_of, encryption, done_block, refused_block, encrypted, decrypted}
+use Rattle.aes.specs.Aes.{BlockReply, key_length, words_of, encryption, done_block, refused_block, encrypted, decrypted}
 use Rattle.aes.proofs.Keys.{decrypted_encrypted}
 
 -- ---- appendix A: each key, and its last round key
@@ -61,16 +60,16 @@ block i = get_or sealed i []
 -- the way back from what a key made of the block
 undone : (k b : List ℕ) → key_length (length k) ≡ true → encrypted k plain ≡ done_block b → decrypted k b ≡ done_block plain
 unfolding done_block
-undone k b t e = ap (λ (r : Reply). decrypted k r.block) (sym e) ∙ decrypted_encrypted k plain t refl
+undone k b t e = ap (λ (r : BlockReply). decrypted k r.block) (sym e) ∙ decrypted_encrypted k plain t refl
 
 pub appendix_C_back :
     decrypted (rising 16) (block 0) ∷ decrypted (rising 24) (block 1) ∷ decrypted (rising 32) (block 2) ∷ []
     ≡ done_block plain ∷ done_block plain ∷ done_block plain ∷ []
 unfolding key_length
 appendix_C_back =
-    λ j. undone (rising 16) (block 0) refl (ap (λ (rs : List Reply). get_or rs 0 refused_block) appendix_C) j
-    ∷ undone (rising 24) (block 1) refl (ap (λ (rs : List Reply). get_or rs 1 refused_block) appendix_C) j
-    ∷ undone (rising 32) (block 2) refl (ap (λ (rs : List Reply). get_or rs 2 refused_block) appendix_C) j ∷ []
+    λ j. undone (rising 16) (block 0) refl (ap (λ (rs : List BlockReply). get_or rs 0 refused_block) appendix_C) j
+    ∷ undone (rising 24) (block 1) refl (ap (λ (rs : List BlockReply). get_or rs 1 refused_block) appendix_C) j
+    ∷ undone (rising 32) (block 2) refl (ap (λ (rs : List BlockReply). get_or rs 2 refused_block) appendix_C) j ∷ []
 
 -- ---- keys of other lengths
 

@@ -11,9 +11,7 @@ use lib.Seq.{get_or-take, length-take-le}
 use Rattle.octets.specs.Octets.{Bytes}
 use Rattle.fips197.specs.Tables.{look}
 use Rattle.fips197.specs.Products.{moved_word, Laid}
-use Rattle.fips197.specs.Cipher.{tabulate}
 use Rattle.fips197.proofs.Entries.{look_in}
-use Rattle.fips197.proofs.Steps.{length_tabulate, get_d_tabulate}
 use Rattle.fips197.proofs.Words.{unmoved}
 use Rattle.fips197.proofs.Shares.{share_word}
 use Rattle.aes_stream.specs.Words.{Rows}
@@ -22,18 +20,17 @@ use Rattle.aes_stream.specs.Words.{Rows}
 abbrev pub at : List ℕ → List ℕ → ℕ → ℕ
 at table shares i = moved_word (i / 256) (get_or shares (get_or table (i % 256) 0) 0)
 
-pub by_table : (p q r t : ℕ) (table shares : List ℕ) → length table ≡ 256 → Bytes table → Laid p q r t (λ x. x) shares
-    → Rows p q r t (look table) (tabulate 1024 (at table shares))
-by_table p q r t table shares long b h =
+pub by_table : (p q r t : ℕ) (table shares words : List ℕ) → length table ≡ 256 → length words ≡ 1024
+    → ((i : ℕ) → i < 1024 → get_or words i 0 ≡ at table shares i) → Bytes table → Laid p q r t (λ x. x) shares → Rows p q r t (look table) words
+by_table p q r t table shares words long size each b h =
     let here : (x : ℕ) → x < 256 → look table x ≡ get_or table x 0 = λ x l. look_in table x (omega (arith, l)) in
     record {
-      long = length_tabulate 1024 (at table shares);
+      long = size;
       byte = λ x l. rw (here x l) (b.at x);
       at = λ k x hk l.
           let row : (256 * k + x) / 256 ≡ k = omega (arith, l) in
           let place : (256 * k + x) % 256 ≡ x = omega (arith, l) in
-          get_d_tabulate 1024 (at table shares) (256 * k + x) (omega (arith, hk, l))
-          ∙ rw (row, place, h.at (get_or table x 0) (b.at x), here x l);
+          each (256 * k + x) (omega (arith, hk, l)) ∙ rw (row, place, h.at (get_or table x 0) (b.at x), here x l);
     }
 
 module _ (p q r t : ℕ) (sub : ℕ → ℕ) (words : List ℕ) (h : Rows p q r t sub words) where

@@ -6,8 +6,7 @@ use native.Mathlib.Omega.{arith}
 use lib.ListN.{length, take, replicate}
 use lib.Seq.{paste, take-paste, length-paste}
 use Rattle.octets.specs.Octets.{zero_from}
-use Rattle.answers.specs.Ended.{Left, left, reply, ended}
-use Rattle.answers.specs.declared.Reply.{Reply}
+use Rattle.answers.specs.Ended.{Left, Reply, left, reply, ended}
 
 pub ended_answer : (n size : ℕ) (content out : List ℕ) → (ended n size content out).reply.answer ≡ n
 unfolding ended
@@ -30,22 +29,6 @@ ended_size zero size content out most h = h refl
 ended_size (suc n) size content out most h = omega arith
 
 -- ---- what the code's own ending leaves
-
--- of a refusal the output, where the definition refuses alike
-pub refusal : (a n size : ℕ) (r : Reply) (out end wrote content : List ℕ) → a ≡ n → (a ≡ 0 → ⊥) → left r end ≡ ended a 0 wrote out
-    → left r end ≡ ended n size content out
-refusal a n size r out end wrote content s z e =
-    e ∙ ended_refused a 0 wrote out z ∙ ap (λ (m : ℕ). left (reply m 0) out) s ∙ sym (ended_refused n size content out (λ w. z (s ∙ w)))
-
--- and of an acceptance its size, and zeros after so many bytes
-module _ (n : ℕ) (r : Reply) (mid end : List ℕ) (e : left r end ≡ ended 0 n (take n mid) mid) where
-  pub ended_reply : r ≡ reply 0 n
-  unfolding ended
-  ended_reply = ap (λ (l : Left). l.reply) e
-
-  pub ended_out : end ≡ zero_from n mid
-  unfolding ended zero_from
-  ended_out = ap (λ (l : Left). l.out) e
 
 -- a list laid at a place, and zeros from where it ends
 pub laid : (d x e r : List ℕ) (at n end : ℕ) → at + n ≡ end → end ≤ length d → n ≤ length x → e ≡ paste d at x n → r ≡ zero_from end e

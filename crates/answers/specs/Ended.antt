@@ -1,7 +1,11 @@
 -- What a call with an output leaves, by its answer (01, "The numbered replies": a refusal carries size 0 and changes no lent byte; after
 -- answer 0 every output byte past the written part is zero). Assumes nothing.
 use Rattle.std.specs.Prelude.{List, ◌++◌, ℕ, zero, suc, ◌-◌, length, replicate}
-use Rattle.answers.specs.declared.Reply.{Reply}
+
+-- its answer, and the number of bytes written
+pub record Reply : Type 0 where
+  pub answer : ℕ
+  pub size : ℕ
 
 -- its reply, and the output
 pub record Left : Type 0 where

@@ -1,2 +1,3 @@
 pub mod Rules
 pub mod Ended
+pub mod Refusals

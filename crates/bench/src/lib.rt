@@ -4,54 +4,83 @@
 
 mod in_place;
 
+use aes::RoundKeys;
+use aes_stream::{Decryption, Encryption};
+use answers::{Refusal, number};
+use password::Lock;
+
 // The first eight bytes of a hash, as a number.
 #[unsafe(no_mangle)]
 pub extern "C" fn bench_sha1(message: &[u8]) -> u64 {
-    let h = sha1_digest::digest(message);
-    let bytes = h.bytes;
-    octets::le64(&bytes, 0)
+    sha1_digest::digest(message).map_or(0, |hash| octets::le64(&hash, 0))
 }
 
-// Every whole block of a buffer encrypted in place, tables and expanded key lent; the answer.
-#[unsafe(no_mangle)]
-pub extern "C" fn bench_encrypt(key: &[u8], buf: &mut [u8]) -> u64 {
-    let e = aes::expand(key);
-    let rounds = e.rounds;
-    if rounds == 0 {
-        return 8;
+// The round keys of a key of 16, 24 or 32 bytes.
+fn round_keys(key: &[u8]) -> Result<RoundKeys, Refusal> {
+    let expanded = aes::expand(key);
+    if expanded.rounds == 0 || 14 < expanded.rounds {
+        return Err(Refusal::KeySize);
     }
-    if 14 < rounds {
-        return 8;
-    }
-    let w = e.bytes;
+    Ok(expanded.round_keys())
+}
+
+// Every whole block of a buffer encrypted in place, tables and expanded key lent.
+fn encrypt(key: &[u8], buf: &mut [u8]) -> Result<(), Refusal> {
+    let key = round_keys(key)?;
+    let w = key.bytes;
     let table = aes::tables::SBOX;
-    let words = aes_stream::forward(&table);
-    in_place::encrypt(&w, rounds, &table, &words, buf);
-    0
+    let mut words = [0u32; 1024];
+    aes_stream::lay_forward(&table, &mut words);
+    let encryption = Encryption {
+        w: &w,
+        rounds: key.rounds,
+        table: &table,
+        words: &words,
+    };
+    in_place::each(buf, |block| encryption.block(block));
+    Ok(())
 }
 
 // The same, decrypted.
-#[unsafe(no_mangle)]
-pub extern "C" fn bench_decrypt(key: &[u8], buf: &mut [u8]) -> u64 {
-    let e = aes::expand(key);
-    let rounds = e.rounds;
-    if rounds == 0 {
-        return 8;
-    }
-    if 14 < rounds {
-        return 8;
-    }
-    let w = e.bytes;
+// kept: beside encrypt: the two lend different tables, and the blocks' loop is one for both (in_place)
+fn decrypt(key: &[u8], buf: &mut [u8]) -> Result<(), Refusal> {
+    let key = round_keys(key)?;
+    let w = key.bytes;
     let table = aes::tables::INV_SBOX;
     let shares = products::shares();
-    let words = aes_stream::inverse(&table, &shares);
     let mixed = aes_stream::mixed(&w, &shares);
-    in_place::decrypt(&w, &mixed, rounds, &table, &words, buf);
-    0
+    let mut words = [0u32; 1024];
+    aes_stream::lay_inverse(&table, &shares, &mut words);
+    let decryption = Decryption {
+        w: &w,
+        mixed: &mixed,
+        rounds: key.rounds,
+        table: &table,
+        words: &words,
+    };
+    in_place::each(buf, |block| decryption.block(block));
+    Ok(())
 }
 
-// A verdict.
+// `encrypt`, as a number.
+#[unsafe(no_mangle)]
+pub extern "C" fn bench_encrypt(key: &[u8], buf: &mut [u8]) -> u64 {
+    u64::from(number(encrypt(key, buf)))
+}
+
+// `decrypt`, as a number.
+#[unsafe(no_mangle)]
+pub extern "C" fn bench_decrypt(key: &[u8], buf: &mut [u8]) -> u64 {
+    u64::from(number(decrypt(key, buf)))
+}
+
+// A verdict, as a number.
 #[unsafe(no_mangle)]
 pub extern "C" fn bench_verdict(info: &[u8], password: &[u16]) -> u64 {
-    password::verdict(info, password, descriptor::ECB) as u64
+    let lock = Lock {
+        info,
+        password,
+        scheme: descriptor::ECB,
+    };
+    u64::from(number(lock.verdict()))
 }

@@ -1,7 +1,7 @@
 -- AES as a stream's step: under any key of bytes both modes undo themselves, and give sixteen bytes whatever they take; and the one step
 -- that the code takes is the mode's. Assumes nothing.
 use mathlib.Core.Path.{◌≡◌, refl, ap, ap₂, ◌∙◌}
-use mathlib.Core.Bool.{Bool, true, false, cond}
+use mathlib.Core.Bool.{true, false}
 use mathlib.Core.List.{List}
 use Prim.Native.Nat.{ℕ, ◌≤◌, ◌<◌}
 use native.Mathlib.Omega.{arith}
@@ -13,8 +13,9 @@ use Rattle.fips197.specs.Cipher.{round_key, cipher, inv_cipher}
 use Rattle.fips197.specs.Expansion.{rounds_for}
 use Rattle.fips197.proofs.States.{length_add_round_key, add_round_key_bytes, unadd, told_by_sum}
 use Rattle.fips197.proofs.Undo.{length_cipher, length_inv_cipher}
-use Rattle.aes.specs.Aes.{key_length, encryption, decryption, expanded}
+use Rattle.aes.specs.Aes.{key_length, encryption, decryption, expanded, expanded_of}
 use Rattle.aes.specs.declared.Expanded.{Expanded}
+use Rattle.aes.specs.declared.round_keys.RoundKeys.{RoundKeys}
 use Rattle.aes.proofs.Keys.{fits, expanded_fit, cipher_expanded, inv_cipher_expanded, decryption_encryption, encryption_decryption, length_encryption, length_decryption, encryption_bytes, decryption_bytes}
 use Rattle.steps.specs.Steps.{Step, Starts, Sized, Reverses}
 use Rattle.steps.specs.Ecb.{ecb, Blocks}
@@ -26,6 +27,7 @@ use Rattle.segments.specs.Start.{start_of}
 use Rattle.segments.proofs.Vectors.{start_bytes}
 use Rattle.blocks.specs.Blocks.{ecb_under, chained_under, xored, with_link, mode_step, step_by, step_from, stream_start}
 use Rattle.blocks.specs.declared.Mode.{Mode}
+use Rattle.blocks.specs.declared.Mode.TheVariants.{Ecb, Chained}
 use Rattle.blocks.specs.declared.Place.{Place}
 
 -- ---- a mode's step
@@ -33,27 +35,28 @@ use Rattle.blocks.specs.declared.Place.{Place}
 xor_sum : Sum xored
 xor_sum = record { long = length_add_round_key; bytes = add_round_key_bytes; undo = unadd }
 
-length_chosen : (b : Bool) (x p : List ℕ) → length (cond b (xored x p) x) ≡ length x
-length_chosen true x p = length_add_round_key x p
-length_chosen false x p = refl
+length_linked : (m : Mode) (i : ℕ) (p x : List ℕ) → length (with_link m i p x) ≡ length x
+unfolding with_link
+length_linked Ecb i p x = refl
+length_linked (Chained salt size) i p x = length_add_round_key x (link (start_of salt) size i p)
 
-module _ (m : Mode) (f g : List ℕ → List ℕ) where
+module _ (f g : List ℕ → List ℕ) where
   -- it is ECB, or chaining in segments
-  pub mode_ecb : m.chained ≡ false → mode_step m f g ≡ ecb f g
+  pub mode_ecb : mode_step Ecb f g ≡ ecb f g
   unfolding mode_step with_link ecb
-  mode_ecb e = rw e
+  mode_ecb = refl
 
-  pub mode_chained : m.chained ≡ true → mode_step m f g ≡ chained f g xored (start_of m.salt) m.size
+  pub mode_chained : (salt : List ℕ) (size : ℕ) → mode_step (Chained salt size) f g ≡ chained f g xored (start_of salt) size
   unfolding mode_step with_link chained
-  mode_chained e = rw e
+  mode_chained salt size = refl
 
-  mode_sized : ((x : List ℕ) → length (f x) ≡ 16) → ((x : List ℕ) → length (g x) ≡ 16) → Sized (mode_step m f g)
-  unfolding mode_step with_link
-  mode_sized a b =
+  mode_sized : (m : Mode) → ((x : List ℕ) → length (f x) ≡ 16) → ((x : List ℕ) → length (g x) ≡ 16) → Sized (mode_step m f g)
+  unfolding mode_step
+  mode_sized m a b =
       record {
         some = omega arith;
         there = λ i p x. a (with_link m i p x);
-        back = λ i p x. length_chosen m.chained (g x) (link (start_of m.salt) m.size i p) ∙ b x;
+        back = λ i p x. length_linked m i p (g x) ∙ b x;
       }
 
 -- the step that the code takes: blocks of sixteen bytes, before the first of which stand zeros
@@ -69,7 +72,7 @@ module _ (m : Mode) (w : List ℕ) (rounds : ℕ) where
   pub by_sized : Sized (step_by m w rounds)
   unfolding step_by
   by_sized =
-      mode_sized m (cipher (round_key w) rounds) (inv_cipher (round_key w) rounds) (length_cipher (round_key w) rounds) (length_inv_cipher (round_key w) rounds)
+      mode_sized (cipher (round_key w) rounds) (inv_cipher (round_key w) rounds) m (length_cipher (round_key w) rounds) (length_inv_cipher (round_key w) rounds)
 
   -- from any place on too
   pub from_sized : (p : Place) → Sized (step_from p m w rounds)
@@ -160,21 +163,21 @@ module _ (k : List ℕ) where
       by_expanded = ap₂ (mode_step m) (λ i b. cipher_expanded k b t i) (λ i b. inv_cipher_expanded k b t i)
 
       -- a stream taken up at its start
-      started : (e : Expanded) (p : Place) → e ≡ expanded k → p ≡ stream_start → step_from p m e.bytes e.rounds ≡ mode_step m (encryption k) (decryption k)
+      started : (e : RoundKeys) (p : Place) → expanded_of e ≡ expanded k → p ≡ stream_start → step_from p m e.bytes e.rounds ≡ mode_step m (encryption k) (decryption k)
       started e p q s =
           ap (λ (x : Place). step_from x m e.bytes e.rounds) s
           ∙ from_start m e.bytes e.rounds
           ∙ ap (λ (x : Expanded). step_by m x.bytes x.rounds) q
           ∙ by_expanded
 
-      pub ecb_started : (e : Expanded) (p : Place) → m.chained ≡ false → e ≡ expanded k → p ≡ stream_start → step_from p m e.bytes e.rounds ≡ ecb_under k
+    module _ (e : RoundKeys) (p : Place) (q : expanded_of e ≡ expanded k) (s : p ≡ stream_start) where
+      pub ecb_started : step_from p Ecb e.bytes e.rounds ≡ ecb_under k
       unfolding ecb_under
-      ecb_started e p h q s = started e p q s ∙ mode_ecb m (encryption k) (decryption k) h
+      ecb_started = started Ecb e p q s ∙ mode_ecb (encryption k) (decryption k)
 
-      pub chained_started : (e : Expanded) (p : Place) → m.chained ≡ true → e ≡ expanded k → p ≡ stream_start
-          → step_from p m e.bytes e.rounds ≡ chained_under k m.salt m.size
+      pub chained_started : (salt : List ℕ) (size : ℕ) → step_from p (Chained salt size) e.bytes e.rounds ≡ chained_under k salt size
       unfolding chained_under
-      chained_started e p h q s = started e p q s ∙ mode_chained m (encryption k) (decryption k) h
+      chained_started salt size = started (Chained salt size) e p q s ∙ mode_chained (encryption k) (decryption k) salt size
 
 -- what either way lays under a step, over the whole of a buffer
 pub laid_under : (way : Step → List ℕ → List ℕ) (code step : Step) (n : ℕ) (d s x : List ℕ) → code ≡ step → length d ≡ n

@@ -1,6 +1,6 @@
 -- AES as the step of a stream: each block of sixteen bytes by itself (000 section 7: ECB mode), or chained in segments (001, 003: CBC).
 -- Assumes nothing.
-use Rattle.std.specs.Prelude.{false, cond, List, ℕ, replicate}
+use Rattle.std.specs.Prelude.{List, ℕ, replicate}
 use Rattle.fips197.specs.Cipher.{round_key, add_round_key, cipher, inv_cipher}
 use Rattle.aes.specs.Aes.{encryption, decryption}
 use Rattle.steps.specs.Steps.{Step, resumed}
@@ -8,6 +8,7 @@ use Rattle.steps.specs.Ecb.{ecb}
 use Rattle.steps.specs.Chained.{link, chained}
 use Rattle.segments.specs.Start.{start_of}
 use Rattle.blocks.specs.declared.Mode.{Mode}
+use Rattle.blocks.specs.declared.Mode.TheVariants.{Ecb, Chained}
 use Rattle.blocks.specs.declared.Place.{Place}
 
 -- ---- under a key
@@ -28,7 +29,13 @@ chained_under key salt size = chained (encryption key) (decryption key) xored (s
 
 -- block i, x, after the cipher block p: with what it is chained to xored in, or as it is
 unfoldable pub with_link : Mode → (i : ℕ) (p x : List ℕ) → List ℕ
-with_link m i p x = cond m.chained (xored x (link (start_of m.salt) m.size i p)) x
+with_link Ecb i p x = x
+with_link (Chained salt size) i p x = xored x (link (start_of salt) size i p)
+
+-- the bytes of the package whose segments are chained; none counts where each block stands by itself
+abbrev pub size_of : Mode → ℕ
+size_of Ecb = 0
+size_of (Chained salt size) = size
 
 -- f there and g back, on the blocks so linked
 unfoldable pub mode_step : Mode → (f g : List ℕ → List ℕ) → Step
@@ -42,10 +49,6 @@ step_by m w rounds = mode_step m (cipher (round_key w) rounds) (inv_cipher (roun
 -- the same for a stream that is taken up at a place
 abbrev pub step_from : Place → Mode → (w : List ℕ) (rounds : ℕ) → Step
 step_from place m w rounds = resumed place.number place.before (step_by m w rounds)
-
--- each block by itself, with no salt and no size
-abbrev pub ecb_mode : Mode
-ecb_mode = record { chained = false; salt = replicate 16 0; size = 0 }
 
 -- where a stream starts: at block 0, before which stand zeros
 abbrev pub stream_start : Place

@@ -1,7 +1,7 @@
 // A stream of 16-byte blocks under AES, each by itself (000 section 7) or chained in segments (001, 003), out of one lent slice into
 // another, from any of its blocks on.
 //
-//     blocks::decrypt(key, blocks::ecb(), blocks::start(), &stream[8..], size, out);
+//     blocks::decrypt(key, Mode::Ecb, blocks::start(), &stream[8..], size, out);
 //
 // The key comes expanded. It is copied once a stream, the tables are laid once, and both are lent to each block. A contract says which
 // bytes of the output are written and with what; the rest of it is as it was.
@@ -18,27 +18,16 @@ ghost use Rattle.steps.specs.Steps.{open_all, seal_all};
 ghost use Rattle.blocks.specs.Blocks.{step_by, step_from};
 ghost use Rattle.blocks.specs.Blocks as Blocks;
 
-use aes::{Expanded, tables};
+use aes::{RoundKeys, tables};
+use aes_stream::{Decryption, Encryption};
 
-// How the blocks of a stream go together: each by itself, or chained in the segments of a package of so many bytes, which start from
-// vectors of the salt.
+// How the blocks of a stream go together.
 #[derive(Clone, Copy)]
-pub struct Mode {
-    pub chained: bool,
-    pub salt: [u8; 16],
-    pub size: usize,
-}
-
-// Each block by itself: neither salt nor size counts.
-pub fn ecb() -> Mode
-    ensures { result ≡ Blocks.ecb_mode }
-{
-    let salt = [0u8; 16];
-    Mode {
-        chained: false,
-        salt,
-        size: 0,
-    }
+pub enum Mode {
+    // Each by itself.
+    Ecb,
+    // In the segments of a package of so many bytes, which start from vectors of the salt.
+    Chained { salt: [u8; 16], size: usize },
 }
 
 // Where a stream is taken up: the number of a block, and the cipher block before it.
@@ -58,27 +47,17 @@ pub fn start() -> Place
 
 // The sixteen bytes at `at` of s then filling.
 fn filled_block(s: &[u8], filling: &[u8; 16], at: usize) -> [u8; 16]
-    requires { (at ≤ length s.now) × (length filling.now ≡ 16) }
+    requires { at ≤ length s.now }
     ensures { result ≡ take 16 (drop at (s.now ++ filling.now)) }
 {
     let left = s.len() - at;
     if 16 <= left {
-        return octets::sixteen(s, at);
+        return octets::part(s, at);
     }
     let mut b = [0u8; 16];
     octets::copy(s, at, left, &mut b, 0);
     octets::copy(filling, 0, 16 - left, &mut b, left);
     b
-}
-
-// How many bytes of a block are wanted where `left` are.
-fn part(left: usize) -> usize
-    ensures { result ≡ min 16 left }
-{
-    if left < 16 {
-        return left;
-    }
-    16
 }
 
 // A block with another xored in.
@@ -88,155 +67,92 @@ fn xored(a: [u8; 16], b: [u8; 16]) -> [u8; 16]
     aes_rounds::add_sixteen(&b, 0, a)
 }
 
+// kept: the bound on a mode's size stands in each contract, and in no type: `sheet::mode_of` gives the mode of any size
 // A plain block at its place with what it is chained to xored in, or as it is where each stands by itself.
 fn with_link(mode: Mode, place: Place, block: [u8; 16]) -> [u8; 16]
-    requires { mode.size < 2 ^ 44 }
+    requires { Blocks.size_of mode < 2 ^ 44 }
     ensures { result ≡ Blocks.with_link mode place.number place.before block }
 {
-    if !mode.chained {
-        return block;
+    match mode {
+        Mode::Ecb => block,
+        Mode::Chained { salt, size } => {
+            if segments::begins(size, place.number) {
+                let number = (place.number / 256) as u32;
+                return xored(block, segments::starting_vector(salt, number));
+            }
+            xored(block, place.before)
+        }
     }
-    if segments::begins(mode.size, place.number) {
-        let salt = mode.salt;
-        let number = (place.number / 256) as u32;
-        return xored(block, segments::starting_vector(salt, number));
-    }
-    let before = place.before;
-    xored(block, before)
 }
 
 // A block at its place, decrypted.
-fn open_block(
-    w: &[u8; 240],
-    mixed: &[u8; 240],
-    rounds: usize,
-    table: &[u8; 256],
-    words: &[u32; 1024],
-    mode: Mode,
-    place: Place,
-    block: [u8; 16],
-) -> [u8; 16]
-    requires rounds_nonzero { (0 < rounds) × (rounds ≤ 14) × (length w.now ≡ 240) × (length mixed.now ≡ 240) }
-    requires mixed_value { (mixed.now ≡ inv_mix_columns w.now) × (table.now ≡ inv_sbox) × Inverse words.now }
-    requires size_bound { mode.size < 2 ^ 44 }
-    ensures { result ≡ (step_by mode w.now rounds).back place.number place.before block }
+#[tactic(auto, unfolding(crate::specs::Blocks::step_by, crate::specs::Blocks::mode_step))]
+fn open_block(decryption: &Decryption, mode: Mode, place: Place, block: [u8; 16]) -> [u8; 16]
+    requires { Blocks.size_of mode < 2 ^ 44 }
+    ensures { result ≡ (step_by mode decryption.now.w.now decryption.now.rounds).back place.number place.before block }
 {
-    let plain = aes_stream::inv_cipher(w, mixed, rounds, table, words, block);
-    with_link(mode, place, plain)
+    with_link(mode, place, decryption.block(block))
 }
 
-// `decrypt`, with the key and the tables lent.
-fn decrypt_with(
-    w: &[u8; 240],
-    mixed: &[u8; 240],
-    rounds: usize,
-    table: &[u8; 256],
-    words: &[u32; 1024],
+// `decrypt`, by a decryption that is lent.
+fn decrypt_by(
+    decryption: &Decryption,
     mode: Mode,
     place: Place,
     src: &[u8],
     size: usize,
     out: &mut [u8],
 )
-    requires rounds_nonzero { (0 < rounds) × (rounds ≤ 14) × (length w.now ≡ 240) × (length mixed.now ≡ 240) }
-    requires mixed_value { (mixed.now ≡ inv_mix_columns w.now) × (table.now ≡ inv_sbox) × Inverse words.now }
-    requires size_bound { (size ≤ 16 * (length src.now / 16)) × (size ≤ length out.old) × (place.number + size < 2 ^ 64) × (mode.size < 2 ^ 44) }
-    ensures { out.new ≡ paste out.old 0 (open_all (step_from place mode w.now rounds) src.now) size }
+    requires fits { (size ≤ 16 * (length src.now / 16)) × (size ≤ length out.old) × (place.number + size < 2 ^ 64) × (Blocks.size_of mode < 2 ^ 44) }
+    ensures { out.new ≡ paste out.old 0 (open_all (step_from place mode decryption.now.w.now decryption.now.rounds) src.now) size }
 {
     let mut before = place.before;
-    let mut i = 0;
-    while i < size {
-        let n = part(size - i);
-        let block = octets::sixteen(src, i);
+    for k in 0..size.div_ceil(16) {
+        let block = octets::part(src, 16 * k);
         let here = Place {
-            number: place.number + i / 16,
+            number: place.number + k,
             before,
         };
-        let plain = open_block(w, mixed, rounds, table, words, mode, here, block);
-        octets::copy(&plain, 0, n, out, i);
+        let plain = open_block(decryption, mode, here, block);
+        let wanted = (size - 16 * k).min(16);
+        octets::copy(&plain, 0, wanted, out, 16 * k);
         before = block;
-        i += n;
     }
-}
-
-// `decrypt`, with the key and the shares lent.
-fn decrypt_by(
-    w: &[u8; 240],
-    rounds: usize,
-    shares: &[u32; 256],
-    mode: Mode,
-    place: Place,
-    src: &[u8],
-    size: usize,
-    out: &mut [u8],
-)
-    requires rounds_nonzero { (0 < rounds) × (rounds ≤ 14) × (length w.now ≡ 240) }
-    requires shares_value { Shares shares.now }
-    requires size_bound { (size ≤ 16 * (length src.now / 16)) × (size ≤ length out.old) × (place.number + size < 2 ^ 64) × (mode.size < 2 ^ 44) }
-    ensures { out.new ≡ paste out.old 0 (open_all (step_from place mode w.now rounds) src.now) size }
-{
-    let table = tables::INV_SBOX;
-    let mut words = [0u32; 1024];
-    aes_stream::lay_inverse(&table, shares, &mut words);
-    decrypt_with(
-        w,
-        &aes_stream::mixed(w, shares),
-        rounds,
-        &table,
-        &words,
-        mode,
-        place,
-        src,
-        size,
-        out,
-    );
 }
 
 // The first `size` bytes of the blocks of src, decrypted, at the front of out. The first of them is the one at the place. A last block of
 // which less is wanted is cut.
-pub fn decrypt(key: Expanded, mode: Mode, place: Place, src: &[u8], size: usize, out: &mut [u8])
-    requires rounds_nonzero { (0 < key.rounds) × (key.rounds ≤ 14) }
-    requires size_bound { (size ≤ 16 * (length src.now / 16)) × (size ≤ length out.old) × (place.number + size < 2 ^ 64) × (mode.size < 2 ^ 44) }
+pub fn decrypt(key: RoundKeys, mode: Mode, place: Place, src: &[u8], size: usize, out: &mut [u8])
+    requires fits { (size ≤ 16 * (length src.now / 16)) × (size ≤ length out.old) × (place.number + size < 2 ^ 64) × (Blocks.size_of mode < 2 ^ 44) }
     ensures { out.new ≡ paste out.old 0 (open_all (step_from place mode key.bytes key.rounds) src.now) size }
 {
-    let w = key.bytes;
-    decrypt_by(
-        &w,
-        key.rounds,
-        &products::shares(),
-        mode,
-        place,
-        src,
-        size,
-        out,
-    );
+    let shares = products::shares();
+    let table = tables::INV_SBOX;
+    let mut words = [0u32; 1024];
+    aes_stream::lay_inverse(&table, &shares, &mut words);
+    let decryption = Decryption {
+        w: &key.bytes,
+        mixed: &aes_stream::mixed(&key.bytes, &shares),
+        rounds: key.rounds,
+        table: &table,
+        words: &words,
+    };
+    decrypt_by(&decryption, mode, place, src, size, out);
 }
 
+// kept: sealing beside opening: it fills its last block, and each block is chained to the one that was just made
 // A block at its place, encrypted.
-fn seal_block(
-    w: &[u8; 240],
-    rounds: usize,
-    table: &[u8; 256],
-    words: &[u32; 1024],
-    mode: Mode,
-    place: Place,
-    block: [u8; 16],
-) -> [u8; 16]
-    requires rounds_nonzero { (0 < rounds) × (rounds ≤ 14) × (length w.now ≡ 240) }
-    requires table_value { (table.now ≡ sbox) × Forward words.now }
-    requires size_bound { mode.size < 2 ^ 44 }
-    ensures { result ≡ (step_by mode w.now rounds).there place.number place.before block }
+#[tactic(auto, unfolding(crate::specs::Blocks::step_by, crate::specs::Blocks::mode_step))]
+fn seal_block(encryption: &Encryption, mode: Mode, place: Place, block: [u8; 16]) -> [u8; 16]
+    requires { Blocks.size_of mode < 2 ^ 44 }
+    ensures { result ≡ (step_by mode encryption.now.w.now encryption.now.rounds).there place.number place.before block }
 {
-    let linked = with_link(mode, place, block);
-    aes_stream::cipher(w, rounds, table, words, linked)
+    encryption.block(with_link(mode, place, block))
 }
 
-// `encrypt`, with the key, the tables and the filling lent.
-fn encrypt_with(
-    w: &[u8; 240],
-    rounds: usize,
-    table: &[u8; 256],
-    words: &[u32; 1024],
+// `encrypt`, by an encryption that is lent.
+fn encrypt_by(
+    encryption: &Encryption,
     mode: Mode,
     place: Place,
     src: &[u8],
@@ -245,29 +161,25 @@ fn encrypt_with(
     out: &mut [u8],
     at: usize,
 )
-    requires rounds_nonzero { (0 < rounds) × (rounds ≤ 14) × (length w.now ≡ 240) × (length filling.now ≡ 16) }
-    requires table_value { (table.now ≡ sbox) × Forward words.now }
-    requires size_value { (size % 16 ≡ 0) × (size ≤ length src.now + 16) × (at + size ≤ length out.old) × (place.number + size < 2 ^ 64) × (mode.size < 2 ^ 44) }
-    ensures { out.new ≡ paste out.old at (seal_all (step_from place mode w.now rounds) (take size (src.now ++ filling.now))) size }
+    requires fits { (size % 16 ≡ 0) × (size ≤ length src.now + 16) × (at + size ≤ length out.old) × (place.number + size < 2 ^ 64) × (Blocks.size_of mode < 2 ^ 44) }
+    ensures { out.new ≡ paste out.old at (seal_all (step_from place mode encryption.now.w.now encryption.now.rounds) (take size (src.now ++ filling.now))) size }
 {
     let mut before = place.before;
-    let mut i = 0;
-    while i < size {
-        let plain = filled_block(src, filling, i);
+    for k in 0..size / 16 {
+        let plain = filled_block(src, filling, 16 * k);
         let here = Place {
-            number: place.number + i / 16,
+            number: place.number + k,
             before,
         };
-        let sealed = seal_block(w, rounds, table, words, mode, here, plain);
-        octets::copy(&sealed, 0, 16, out, at + i);
+        let sealed = seal_block(encryption, mode, here, plain);
+        octets::copy(&sealed, 0, 16, out, at + 16 * k);
         before = sealed;
-        i += 16;
     }
 }
 
 // The first `size` bytes of src then filling, whole blocks, encrypted at `at` of out. The first of them is the one at the place.
 pub fn encrypt(
-    key: Expanded,
+    key: RoundKeys,
     mode: Mode,
     place: Place,
     src: &[u8],
@@ -276,15 +188,17 @@ pub fn encrypt(
     out: &mut [u8],
     at: usize,
 )
-    requires rounds_nonzero { (0 < key.rounds) × (key.rounds ≤ 14) }
-    requires size_value { (size % 16 ≡ 0) × (size ≤ length src.now + 16) × (at + size ≤ length out.old) × (place.number + size < 2 ^ 64) × (mode.size < 2 ^ 44) }
+    requires fits { (size % 16 ≡ 0) × (size ≤ length src.now + 16) × (at + size ≤ length out.old) × (place.number + size < 2 ^ 64) × (Blocks.size_of mode < 2 ^ 44) }
     ensures { out.new ≡ paste out.old at (seal_all (step_from place mode key.bytes key.rounds) (take size (src.now ++ filling))) size }
 {
-    let w = key.bytes;
     let table = tables::SBOX;
     let mut words = [0u32; 1024];
     aes_stream::lay_forward(&table, &mut words);
-    encrypt_with(
-        &w, key.rounds, &table, &words, mode, place, src, &filling, size, out, at,
-    );
+    let encryption = Encryption {
+        w: &key.bytes,
+        rounds: key.rounds,
+        table: &table,
+        words: &words,
+    };
+    encrypt_by(&encryption, mode, place, src, &filling, size, out, at);
 }

@@ -1,94 +1,93 @@
 // One call of each entry.
 ghost use Rattle.answers.specs.Ended.{left};
+ghost use Rattle.answers.specs.Refusals.{answer_of, reply_of};
+ghost use Rattle.sha1_digest.specs.Sha1.{hashed_of};
+ghost use Rattle.aes.specs.Aes as Aes;
 ghost use Rattle.aes.specs.Aes.{encryption, decryption};
-ghost use Rattle.password.specs.Lock.{lock_of};
-ghost use Rattle.rescue.specs.Rescue.{none, rescue};
-ghost use Rattle.files.specs.Files.{file};
+ghost use Rattle.descriptor.specs.Info.{parsed_of};
+ghost use Rattle.password.specs.Lock.{asked};
+ghost use Rattle.rescue.specs.Rescue.{none, rescued_of};
+ghost use Rattle.files.specs.Files.{found};
 ghost use Rattle.promises.specs.Calls as Calls;
 
-use answers::Reply;
-use descriptor::{BitCount, Parsed};
-use files::There;
+use answers::Refusal;
+use descriptor::{BitCount, Descriptor};
+use password::Lock;
 use rescue::Rescued;
-use sha1_digest::Hashed;
 
 // SHA-1 of a message.
-pub fn digest(message: &[u8]) -> Hashed
-    ensures { Calls.Hashing message.now result }
+pub fn digest(message: &[u8]) -> Result<[u8; 20], Refusal>
+    ensures { Calls.Hashing message.now (hashed_of result) }
 {
     sha1_digest::digest(message)
 }
 
 // A block encrypted.
-pub fn encrypt(key: &[u8], block: [u8; 16]) -> aes::Reply
-    ensures { Calls.Enciphering encryption key.now block result }
+pub fn encrypt(key: &[u8], block: [u8; 16]) -> Result<[u8; 16], Refusal>
+    ensures { Calls.Enciphering encryption key.now block (Aes.block_reply result) }
 {
     aes::encrypt(key, block)
 }
 
 // A block decrypted.
-pub fn decrypt(key: &[u8], block: [u8; 16]) -> aes::Reply
-    ensures { Calls.Enciphering decryption key.now block result }
+pub fn decrypt(key: &[u8], block: [u8; 16]) -> Result<[u8; 16], Refusal>
+    ensures { Calls.Enciphering decryption key.now block (Aes.block_reply result) }
 {
     aes::decrypt(key, block)
 }
 
 // EncryptionInfo parsed.
-pub fn parse(info: &[u8], scheme: u64) -> Parsed
-    ensures { Calls.Parsing info.now scheme result }
+pub fn parse(info: &[u8], scheme: u64) -> Result<Descriptor, Refusal>
+    ensures { Calls.Parsing info.now scheme (parsed_of result) }
 {
     descriptor::parse(info, scheme)
 }
 
 // A password judged.
-pub fn verdict(info: &[u8], password: &[u16], scheme: u64) -> u16
-    ensures { Calls.Judging (lock_of info.now password.now scheme) result }
+pub fn verdict(lock: &Lock) -> Result<(), Refusal>
+    ensures { Calls.Judging (asked lock.now) (answer_of result) }
 {
-    password::verdict(info, password, scheme)
+    lock.verdict()
 }
 
 // A stream opened.
-pub fn open(info: &[u8], password: &[u16], scheme: u64, stream: &[u8], out: &mut [u8]) -> Reply
-    ensures { Calls.Opening (lock_of info.now password.now scheme) stream.now out.old (left result out.new) }
+pub fn open(lock: &Lock, stream: &[u8], out: &mut [u8]) -> Result<usize, Refusal>
+    ensures { Calls.Opening (asked lock.now) stream.now out.old (left (reply_of result) out.new) }
 {
-    sheet::open(info, password, scheme, stream, out)
+    sheet::open(lock, stream, out)
 }
 
 // A stretch of a stream's package opened.
 pub fn stretch(
-    info: &[u8],
-    password: &[u16],
-    scheme: u64,
+    lock: &Lock,
     stream: &[u8],
     from: u64,
     to: u64,
     out: &mut [u8],
-) -> Reply
-    ensures { Calls.Stretching (lock_of info.now password.now scheme) stream.now from to out.old (left result out.new) }
+) -> Result<usize, Refusal>
+    ensures { Calls.Stretching (asked lock.now) stream.now from to out.old (left (reply_of result) out.new) }
 {
-    stretch::open(info, password, scheme, stream, from, to, out)
+    stretch::open(lock, stream, from, to, out)
 }
 
 // What is there of a stream opened.
-pub fn rescue(info: &[u8], password: &[u16], scheme: u64, stream: &[u8], out: &mut [u8]) -> Rescued
-    ensures { Calls.Rescuing (lock_of info.now password.now scheme) stream.now out.old none (rescue (left result.reply out.new) result.counts) }
+pub fn rescue(lock: &Lock, stream: &[u8], out: &mut [u8]) -> Result<Rescued, Refusal>
+    ensures { Calls.Rescuing (asked lock.now) stream.now out.old none (rescued_of result out.new) }
 {
-    rescue::open(info, password, scheme, stream, out)
+    rescue::open(lock, stream, out)
 }
 
 // A package sealed.
 pub fn seal(
-    info: &[u8],
-    password: &[u16],
-    scheme: u64,
+    lock: &Lock,
     package: &[u8],
     filling: [u8; 16],
     extra: bool,
     out: &mut [u8],
-) -> Reply
-    ensures { Calls.Sealing (lock_of info.now password.now scheme) «package».now filling extra out.old (left result out.new) }
+) -> Result<usize, Refusal>
+    ensures { Calls.Sealing (asked lock.now) «package».now filling extra out.old (left (reply_of result) out.new) }
 {
-    sheet::seal(info, password, scheme, package, filling, extra, out)
+    sheet::seal(lock, package, filling, extra, out)
 }
 
 // A new EncryptionInfo written.
@@ -100,21 +99,20 @@ pub fn write_info(
     verifier: [u8; 16],
     filling: [u8; 12],
     out: &mut [u8],
-) -> Reply
-    ensures { Calls.Writing (Calls.input bits.0 password.now name.now salt verifier filling) out.old (left result out.new) }
+) -> Result<usize, Refusal>
+    ensures { Calls.Writing (Calls.input bits.0 password.now name.now salt verifier filling) out.old (left (reply_of result) out.new) }
 {
     writer::write_info(bits, password, name, salt, verifier, filling, out)
 }
 
 // The program's three files opened.
 pub fn open_files(
-    there: There,
-    info: &[u8],
-    password: &[u8],
-    stream: &[u8],
+    info: Option<&[u8]>,
+    password: Option<&[u8]>,
+    stream: Option<&[u8]>,
     out: &mut [u8],
-) -> Reply
-    ensures { Calls.FilesOpening (file there.info info.now) (file there.password password.now) (file there.stream stream.now) out.old (left result out.new) }
+) -> Result<usize, Refusal>
+    ensures { Calls.FilesOpening (found info.entry) (found password.entry) (found stream.entry) out.old (left (reply_of result) out.new) }
 {
-    files::open(there, info, password, stream, out)
+    files::open(info, password, stream, out)
 }

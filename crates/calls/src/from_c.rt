@@ -7,6 +7,7 @@ ghost use Rattle.crossing.specs.Crossing.{told, sixteen, twelve, bit_count, chos
 ghost use Rattle.capi.specs.Capi.{counts_in};
 ghost use Rattle.promises.specs.Calls as Calls;
 
+// kept: each parameter by itself, and a number as the result: the C interface
 // SHA-1 of a message.
 pub fn sha1(message: &[u8], out: &mut [u8; 20]) -> u64
     ensures { Calls.HashOut message.now out.old (left (told result) out.new) }

@@ -5,8 +5,9 @@ use mathlib.Core.List.{List}
 use Prim.Native.Nat.{ℕ, ◌^◌, ◌≤◌, ◌<◌}
 use native.Mathlib.Omega.{arith}
 use lib.ListN.{length}
+use Rattle.std.specs.Prelude.{Ok}
 use Rattle.answers.specs.Ended as Ended
-use Rattle.answers.specs.declared.Reply.{Reply}
+use Rattle.answers.specs.Ended.{Reply}
 use Rattle.answers.proofs.Endings.{ended_size}
 use Rattle.password.specs.Lock.{Lock}
 use Rattle.lengths.specs.Lengths as Lengths
@@ -60,7 +61,7 @@ module _ (lock : Lock) where
     pub seal_held : («package» filling : List ℕ) (extra : Bool) → Ended.left r out ≡ Sheet.sealed lock «package» filling extra old → r.size < 2 ^ 48
     seal_held «package» filling extra e = omega (arith, ap (λ (l : Ended.Left). l.reply.size) e, seal_size «package» filling extra old)
 
-  pub rescue_held : (r : Rescued) (old out stream : List ℕ) → Rescue.rescue (Ended.left r.reply out) r.counts ≡ Rescue.rescued lock stream old → r.reply.size < 2 ^ 48
+  pub rescue_held : (r : Rescued) (old out stream : List ℕ) → Rescue.rescued_of (Ok r) out ≡ Rescue.rescued lock stream old → r.size < 2 ^ 48
   unfolding Lengths.package_limit
   rescue_held r old out stream e = omega (arith, ap (λ (x : Rescue.Rescue). x.left.reply.size) e, rescue_size stream old)
 

@@ -6,7 +6,7 @@ use Prim.Native.Nat.{ℕ, zero, suc, ◌-◌, ◌<◌}
 use native.Mathlib.Omega.{arith}
 use lib.ListN.{length, replicate}
 use Rattle.answers.specs.Ended as Ended
-use Rattle.answers.specs.declared.Reply.{Reply}
+use Rattle.answers.specs.Ended.{Reply}
 use Rattle.sha1_digest.specs.Sha1 as Sha1
 use Rattle.aes.specs.Aes as Aes
 use Rattle.descriptor.specs.Info as Info

@@ -1,10 +1,12 @@
 -- What each outside function returns and leaves, for every input (01, "What the product does" and "The numbered replies"), by the
 -- definitions of the crates below and by how values cross. Assumes nothing.
-use Rattle.std.specs.Prelude.{List, [], ◌∷◌, ℕ, zero, suc, get_or}
+use Rattle.std.specs.Prelude.{Result, Ok, Err, List, [], ◌∷◌, ℕ, zero, suc, get_or}
 use Rattle.answers.specs.Ended as Ended
+use Rattle.answers.specs.Refusals.{number}
+use Rattle.answers.specs.declared.Refusal.{Refusal}
 use Rattle.sha1_digest.specs.Sha1 as Sha1
 use Rattle.aes.specs.Aes as Aes
-use Rattle.aes.specs.declared.Reply.{Reply}
+use Rattle.aes.specs.Aes.{BlockReply}
 use Rattle.descriptor.specs.Info as Info
 use Rattle.password.specs.Lock.{Lock}
 use Rattle.password.specs.Verdict as Verdict
@@ -34,8 +36,13 @@ unfoldable pub outcome_by : (answer size : ℕ) (value out : List ℕ) → Outco
 outcome_by zero size value out = outcome (reply_word 0 size) value
 outcome_by (suc n) size value out = outcome (reply_word (suc n) 0) out
 
+-- the same for what gives a value of fixed length, or a refusal
+unfoldable pub value_outcome : Result (List ℕ) Refusal → List ℕ → Outcome
+value_outcome (Ok value) out = outcome (reply_word 0 0) value
+value_outcome (Err r) out = outcome (reply_word (number r) 0) out
+
 -- the same for the reply of a block operation, and for what opening, sealing or writing left
-unfoldable pub block_outcome : Reply → List ℕ → Outcome
+unfoldable pub block_outcome : BlockReply → List ℕ → Outcome
 block_outcome r out = outcome_by r.answer 0 r.block out
 
 unfoldable pub sheet_outcome : Ended.Left → List ℕ → Outcome

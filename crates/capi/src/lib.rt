@@ -7,34 +7,47 @@
 
 #![tactic(auto)]
 
-ghost use Rattle.std.specs.Prelude.{◌≡◌};
+// kept: EncryptionInfo, password and scheme apart, and numbers for refusals and bytes: the C interface
+ghost use Rattle.std.specs.Prelude.{◌≡◌, ◌^◌, ◌<◌};
+ghost use Rattle.answers.specs.Refusals.{reply_of};
+ghost use Rattle.crossing.specs.Crossing.{reply_word};
 ghost use Rattle.password.specs.Lock.{lock_of};
 ghost use Rattle.capi.specs.Capi as Capi;
 ghost use Rattle.capi.specs.Capi.{outcome};
 
-use aes::Reply;
+use answers::Refusal;
+use password::Lock;
+
+// The number of a call that gives a value of fixed length, which is written where there is one.
+#[tactic(auto, unfolding(crate::specs::Capi::value_outcome))]
+fn written<const N: usize>(given: Result<[u8; N], Refusal>, out: &mut [u8; N]) -> u64
+    ensures { outcome result out.new ≡ Capi.value_outcome given.entry out.old }
+{
+    match given {
+        Ok(value) => {
+            *out = value;
+            crossing::word(0, 0)
+        }
+        Err(refusal) => crossing::word(refusal.into(), 0),
+    }
+}
+
+// The number of a call that gives how many bytes it has written.
+fn sized(given: Result<usize, Refusal>) -> u64
+    requires { (reply_of given).size < 2 ^ 48 }
+    ensures { result ≡ reply_word (reply_of given).answer (reply_of given).size }
+{
+    match given {
+        Ok(size) => crossing::word(0, size),
+        Err(refusal) => crossing::word(refusal.into(), 0),
+    }
+}
 
 // SHA-1 of a message.
 pub fn ropeshadow_sha1(message: &[u8], out: &mut [u8; 20]) -> u64
     ensures { outcome result out.new ≡ Capi.hash_outcome message.now out.old }
 {
-    let h = sha1_digest::digest(message);
-    if h.answer == answers::DONE {
-        let bytes = h.bytes;
-        *out = bytes;
-    }
-    crossing::word(h.answer, 0)
-}
-
-// The block of a reply, written where its answer is 0.
-fn written(r: Reply, out: &mut [u8; 16]) -> u64
-    ensures { outcome result out.new ≡ Capi.block_outcome r out.old }
-{
-    if r.answer == answers::DONE {
-        let block = r.block;
-        *out = block;
-    }
-    crossing::word(r.answer, 0)
+    written(sha1_digest::digest(message), out)
 }
 
 // A block encrypted under a key of 16, 24 or 32 bytes.
@@ -55,19 +68,25 @@ pub fn ropeshadow_aes_decrypt(key: &[u8], low: u64, high: u64, out: &mut [u8; 16
 pub fn ropeshadow_parse(info: &[u8], scheme: u64, out: &mut [u8; 88]) -> u64
     ensures { outcome result out.new ≡ Capi.parse_outcome info.now scheme out.old }
 {
-    let p = descriptor::parse(info, scheme);
-    if p.answer == answers::DONE {
-        let d = p.fields;
-        *out = crossing::descriptor_bytes(d);
+    match descriptor::parse(info, scheme) {
+        Ok(fields) => {
+            *out = crossing::descriptor_bytes(fields);
+            crossing::word(0, 0)
+        }
+        Err(refusal) => crossing::word(refusal.into(), 0),
     }
-    crossing::word(p.answer, 0)
 }
 
 // The verdict on a password.
 pub fn ropeshadow_verdict(info: &[u8], password: &[u16], scheme: u64) -> u64
     ensures { result ≡ Capi.verdict_word (lock_of info.now password.now scheme) }
 {
-    crossing::word(password::verdict(info, password, scheme), 0)
+    let lock = Lock {
+        info,
+        password,
+        scheme,
+    };
+    crossing::word(answers::number(lock.verdict()), 0)
 }
 
 // A package stream opened into out.
@@ -80,8 +99,12 @@ pub fn ropeshadow_open(
 ) -> u64
     ensures { outcome result out.new ≡ Capi.open_outcome (lock_of info.now password.now scheme) stream.now out.old }
 {
-    let r = sheet::open(info, password, scheme, stream, out);
-    crossing::word(r.answer, r.size)
+    let lock = Lock {
+        info,
+        password,
+        scheme,
+    };
+    sized(sheet::open(&lock, stream, out))
 }
 
 // The bytes of a package from one place up to, not including, another, opened into out.
@@ -96,8 +119,12 @@ pub fn ropeshadow_stretch(
 ) -> u64
     ensures { outcome result out.new ≡ Capi.stretch_outcome (lock_of info.now password.now scheme) stream.now from to out.old }
 {
-    let r = stretch::open(info, password, scheme, stream, from, to, out);
-    crossing::word(r.answer, r.size)
+    let lock = Lock {
+        info,
+        password,
+        scheme,
+    };
+    sized(stretch::open(&lock, stream, from, to, out))
 }
 
 // What is there of a package stream that is cut or overlong, opened into out, with its counts: recovered, zeroed, surplus.
@@ -111,12 +138,19 @@ pub fn ropeshadow_rescue(
 ) -> u64
     ensures { Capi.beside (outcome result out.new) counts.new ≡ Capi.rescue_outcome (lock_of info.now password.now scheme) stream.now out.old counts.old }
 {
-    let r = rescue::open(info, password, scheme, stream, out);
-    if r.reply.answer == answers::DONE {
-        let c = r.counts;
-        *counts = [c.recovered as u64, c.zeroed as u64, c.surplus as u64];
+    let lock = Lock {
+        info,
+        password,
+        scheme,
+    };
+    match rescue::open(&lock, stream, out) {
+        Ok(rescued) => {
+            let c = rescued.counts;
+            *counts = [c.recovered as u64, c.zeroed as u64, c.surplus as u64];
+            crossing::word(0, rescued.size)
+        }
+        Err(refusal) => crossing::word(refusal.into(), 0),
     }
-    crossing::word(r.reply.answer, r.reply.size)
 }
 
 // A package sealed into out, its last block filled with the first of sixteen bytes; `extra` other than 0 asks for an extra block.
@@ -132,9 +166,13 @@ pub fn ropeshadow_seal(
 ) -> u64
     ensures { outcome result out.new ≡ Capi.seal_outcome (lock_of info.now password.now scheme) «package».now low high extra out.old }
 {
+    let lock = Lock {
+        info,
+        password,
+        scheme,
+    };
     let filling = crossing::sixteen(low, high);
-    let r = sheet::seal(info, password, scheme, package, filling, extra != 0, out);
-    crossing::word(r.answer, r.size)
+    sized(sheet::seal(&lock, package, filling, extra != 0, out))
 }
 
 // A new EncryptionInfo written into out, for a key of so many bits. Of the filling the first twelve bytes count.
@@ -155,14 +193,6 @@ pub fn ropeshadow_write_info(
     let salt = crossing::sixteen(salt_low, salt_high);
     let verifier = crossing::sixteen(verifier_low, verifier_high);
     let filling = crossing::twelve(filling_low, filling_high);
-    let r = writer::write_info(
-        crossing::bit_count(bits),
-        password,
-        name,
-        salt,
-        verifier,
-        filling,
-        out,
-    );
-    crossing::word(r.answer, r.size)
+    let bits = crossing::bit_count(bits);
+    sized(writer::write_info(bits, password, name, salt, verifier, filling, out))
 }

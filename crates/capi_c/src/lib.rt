@@ -11,6 +11,7 @@
 
 #![tactic(auto)]
 
+// kept: each parameter by itself, and a number as the result: the C interface
 ghost use Rattle.std.specs.Prelude.{◌≡◌};
 ghost use Rattle.password.specs.Lock.{lock_of};
 ghost use Rattle.capi.specs.Capi as Capi;

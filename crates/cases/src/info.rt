@@ -1,74 +1,85 @@
 // EncryptionInfo and the password: a stream that breaks no rule, changed a field or two at a time.
 ghost use Rattle.std.specs.Prelude.{◌+◌, ◌≤◌};
 
-use descriptor::ECB;
+use descriptor::{CHAINED, ECB};
+use password::Lock;
+use samples::front;
 use std::io;
 
 // The same with another number in the four bytes at a place.
 pub fn with(s: [u8; 224], at: usize, v: u32) -> [u8; 224]
     requires { at + 4 ≤ 224 }
 {
-    let mut t = s;
-    octets::put_le32(&mut t, at, v);
-    t
+    samples::with(s, at, v.to_le_bytes())
 }
 
-// What a parse gives, under a scheme.
-fn parsed(rt: &impl Print, what: &[u8], info: &[u8], scheme: u64) -> io::Result<()> {
-    let p = descriptor::parse(info, scheme);
-    let d = p.fields;
-    lines::text(rt, b"parse ")?;
-    lines::text(rt, what)?;
-    lines::text(rt, b": answer ")?;
-    lines::number(rt, p.answer as u64)?;
-    lines::text(rt, b" name ")?;
-    lines::number(rt, d.name_place as u64)?;
-    lines::text(rt, b" ")?;
-    lines::number(rt, d.name_length as u64)?;
-    lines::text(rt, b" key ")?;
-    lines::number(rt, d.key_size.0 as u64)?;
-    lines::text(rt, b" scheme ")?;
-    lines::number(rt, d.scheme as u64)?;
-    lines::text(rt, b"\n")
+// An EncryptionInfo with the password that every sample takes.
+pub fn right(info: &[u8], scheme: u64) -> Lock {
+    Lock {
+        info,
+        password: &samples::PASSWORD,
+        scheme,
+    }
+}
+
+// The same with another password.
+pub fn tried<'a>(lock: Lock<'a>, password: &'a [u16]) -> Lock<'a> {
+    Lock { password, ..lock }
+}
+
+// What a parse gives, under a scheme; a refused one shows zeros.
+fn parsed(rt: &impl Print, what: &str, info: &[u8], scheme: u64) -> io::Result<()> {
+    match descriptor::parse(info, scheme) {
+        Ok(d) => {
+            println!(rt;
+                "parse {what}: answer 0 name {} {} key {} scheme {}",
+                d.name_place, d.name_length, d.key_size.0, d.scheme
+            )
+        }
+        Err(refusal) => {
+            let n = u16::from(refusal);
+            println!(rt; "parse {what}: answer {n} name 0 0 key 0 scheme 0")
+        }
+    }
 }
 
 // The same under ECB.
-fn parse(rt: &impl Print, what: &[u8], info: &[u8]) -> io::Result<()> {
+fn parse(rt: &impl Print, what: &str, info: &[u8]) -> io::Result<()> {
     parsed(rt, what, info, ECB)
 }
 
 // Streams that break no rule.
 fn accepted(rt: &impl Print, s: [u8; 224]) -> io::Result<()> {
-    parse(rt, b"as it is", &s)?;
+    parse(rt, "as it is", &s)?;
     parse(
         rt,
-        b"flags, provider and reserved fields of any value",
+        "flags, provider and reserved fields of any value",
         &with(with(with(s, 4, 0xffffffff), 32, 7), 36, 9),
     )?;
-    parse(rt, b"a zero unit in the name", &with(s, 60, 0))?;
-    parse(rt, b"SizeExtra 108", &with(s, 16, 108))
+    parse(rt, "a zero unit in the name", &with(s, 60, 0))?;
+    parse(rt, "SizeExtra 108", &with(s, 16, 108))
 }
 
 // Too short, another version, another HeaderSize, another length.
 fn framed(rt: &impl Print, s: [u8; 224]) -> io::Result<()> {
-    parse(rt, b"0 bytes", b"")?;
-    parse(rt, b"11 bytes", samples::front(&s, 11))?;
+    parse(rt, "0 bytes", b"")?;
+    parse(rt, "11 bytes", front(&s, 11))?;
     parse(
         rt,
-        b"version 4.4 and 223 bytes",
-        samples::front(&with(s, 0, 0x00040004), 223),
+        "version 4.4 and 223 bytes",
+        front(&with(s, 0, 0x00040004), 223),
     )?;
-    parse(rt, b"HeaderSize 31 and so a wrong length", &with(s, 8, 31))?;
+    parse(rt, "HeaderSize 31 and so a wrong length", &with(s, 8, 31))?;
     parse(
         rt,
-        b"HeaderSize 4,097 and so a wrong length",
+        "HeaderSize 4,097 and so a wrong length",
         &with(s, 8, 4097),
     )?;
-    parse(rt, b"HeaderSize 2^32 - 1", &with(s, 8, 0xffffffff))?;
+    parse(rt, "HeaderSize 2^32 - 1", &with(s, 8, 0xffffffff))?;
     parse(
         rt,
-        b"223 bytes and SizeExtra 109",
-        samples::front(&with(s, 16, 109), 223),
+        "223 bytes and SizeExtra 109",
+        front(&with(s, 16, 109), 223),
     )
 }
 
@@ -76,23 +87,23 @@ fn framed(rt: &impl Print, s: [u8; 224]) -> io::Result<()> {
 fn named(rt: &impl Print, s: [u8; 224]) -> io::Result<()> {
     parse(
         rt,
-        b"SizeExtra 109 and another AlgID",
+        "SizeExtra 109 and another AlgID",
         &with(with(s, 16, 109), 20, 0x6801),
     )?;
-    parse(rt, b"SizeExtra 107, an odd name", &with(s, 16, 107))?;
+    parse(rt, "SizeExtra 107, an odd name", &with(s, 16, 107))?;
     parse(
         rt,
-        b"another AlgID and AlgIDHash",
+        "another AlgID and AlgIDHash",
         &with(with(s, 20, 0x6801), 24, 0x8003),
     )?;
     parse(
         rt,
-        b"another AlgIDHash and KeySize",
+        "another AlgIDHash and KeySize",
         &with(with(s, 24, 0x8003), 28, 128),
     )?;
     parse(
         rt,
-        b"AlgID 0x660f with KeySize 128",
+        "AlgID 0x660f with KeySize 128",
         &with(with(s, 20, 0x660f), 28, 128),
     )
 }
@@ -101,26 +112,26 @@ fn named(rt: &impl Print, s: [u8; 224]) -> io::Result<()> {
 fn sized(rt: &impl Print, s: [u8; 224]) -> io::Result<()> {
     parse(
         rt,
-        b"KeySize 32, as if in bytes, and SaltSize 15",
+        "KeySize 32, as if in bytes, and SaltSize 15",
         &with(with(s, 28, 32), 152, 15),
     )?;
     parse(
         rt,
-        b"SaltSize 17 and VerifierHashSize 0",
+        "SaltSize 17 and VerifierHashSize 0",
         &with(with(s, 152, 17), 188, 0),
     )?;
-    parse(rt, b"VerifierHashSize 0", &with(s, 188, 0))
+    parse(rt, "VerifierHashSize 0", &with(s, 188, 0))
 }
 
 // Schemes: the other one, numbers that are none, and an earlier rule broken too.
 fn schemes(rt: &impl Print, s: [u8; 224]) -> io::Result<()> {
-    parsed(rt, b"scheme 2", &s, descriptor::CHAINED)?;
-    parsed(rt, b"scheme 0", &s, 0)?;
-    parsed(rt, b"scheme 3", &s, 3)?;
-    parsed(rt, b"scheme 2^32 + 1", &s, 4294967297)?;
-    parsed(rt, b"scheme 2^64 - 1", &s, 0xffffffffffffffff)?;
-    parsed(rt, b"scheme 3 and VerifierHashSize 0", &with(s, 188, 0), 3)?;
-    parsed(rt, b"scheme 3 and 11 bytes", samples::front(&s, 11), 3)
+    parsed(rt, "scheme 2", &s, CHAINED)?;
+    parsed(rt, "scheme 0", &s, 0)?;
+    parsed(rt, "scheme 3", &s, 3)?;
+    parsed(rt, "scheme 2^32 + 1", &s, 4294967297)?;
+    parsed(rt, "scheme 2^64 - 1", &s, 0xffffffffffffffff)?;
+    parsed(rt, "scheme 3 and VerifierHashSize 0", &with(s, 188, 0), 3)?;
+    parsed(rt, "scheme 3 and 11 bytes", front(&s, 11), 3)
 }
 
 pub fn parses(rt: &impl Print) -> io::Result<()> {
@@ -133,65 +144,53 @@ pub fn parses(rt: &impl Print) -> io::Result<()> {
 }
 
 // The verdict on a password.
-pub fn verdict(
-    rt: &impl Print,
-    what: &[u8],
-    info: &[u8],
-    password: &[u16],
-    scheme: u64,
-) -> io::Result<()> {
-    lines::text(rt, b"verdict ")?;
-    lines::text(rt, what)?;
-    lines::text(rt, b": answer ")?;
-    lines::number(rt, password::verdict(info, password, scheme) as u64)?;
-    lines::text(rt, b"\n")
+pub fn verdict(rt: &impl Print, what: &str, lock: Lock) -> io::Result<()> {
+    println!(rt;
+        "verdict {what}: answer {}",
+        answers::number(lock.verdict())
+    )
 }
 
 // A password that is right or wrong.
 fn judged(rt: &impl Print, s: [u8; 224]) -> io::Result<()> {
-    let right = samples::password();
-    verdict(rt, b"right", &s, &right, ECB)?;
+    let named = with(s, 60, 0);
+    let lock = right(&s, ECB);
+    verdict(rt, "right", lock)?;
+    verdict(rt, "right, a zero unit in the name", right(&named, ECB))?;
     verdict(
         rt,
-        b"right, a zero unit in the name",
-        &with(s, 60, 0),
-        &right,
-        ECB,
+        "right, one unit more",
+        tried(lock, &[0x70, 0x61, 0x73, 0x73, 0x77, 0x6f, 0x72, 0x64, 0]),
     )?;
-    verdict(
-        rt,
-        b"right, one unit more",
-        &s,
-        &[0x70, 0x61, 0x73, 0x73, 0x77, 0x6f, 0x72, 0x64, 0],
-        ECB,
-    )?;
-    verdict(rt, b"empty", &s, &[], ECB)
+    verdict(rt, "empty", tried(lock, &[]))
 }
 
-// A password of as many units as the slice has, all the same and wrong.
-fn long(rt: &impl Print, s: [u8; 224], units: &[u16]) -> io::Result<()> {
-    lines::number(rt, units.len() as u64)?;
-    lines::text(rt, b" units: ")?;
-    verdict(rt, b"wrong", &s, units, ECB)?;
-    lines::number(rt, units.len() as u64)?;
-    lines::text(rt, b" units: ")?;
-    verdict(
-        rt,
-        b"wrong, VerifierHashSize 0",
-        &with(s, 188, 0),
-        units,
-        ECB,
-    )?;
-    lines::number(rt, units.len() as u64)?;
-    lines::text(rt, b" units: ")?;
-    verdict(rt, b"wrong, 11 bytes", samples::front(&s, 11), units, ECB)
+// A wrong password of so many units.
+fn long(rt: &impl Print, s: [u8; 224], password: &[u16]) -> io::Result<()> {
+    let unhashed = with(s, 188, 0);
+    let infos = [
+        ("wrong", &s[..]),
+        ("wrong, VerifierHashSize 0", &unhashed[..]),
+        ("wrong, 11 bytes", &s[..11]),
+    ];
+    for (what, info) in infos {
+        print!(rt; "{} units: ", password.len())?;
+        verdict(
+            rt,
+            what,
+            Lock {
+                info,
+                password,
+                scheme: ECB,
+            },
+        )?;
+    }
+    Ok(())
 }
 
 pub fn verdicts(rt: &impl Print) -> io::Result<()> {
     let s = samples::info_256();
     judged(rt, s)?;
-    let most = [0x61u16; 255];
-    long(rt, s, &most)?;
-    let more = [0x61u16; 256];
-    long(rt, s, &more)
+    long(rt, s, &[0x61; 255])?;
+    long(rt, s, &[0x61; 256])
 }

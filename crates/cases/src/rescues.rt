@@ -1,10 +1,12 @@
 // What is left of a package whose stream is cut or too long (request 2026-13), under both schemes, streams that opening answers with 15, and
 // the refusals in order. Every buffer is full of a5 before the call.
 use crate::extra::zeros;
-use crate::info::with;
+use crate::info::{right, tried, with};
 use crate::sheets;
-use crate::stretches::refill;
 use descriptor::{CHAINED, ECB};
+use password::Lock;
+use rescue::Counts;
+use samples::front;
 use std::io;
 
 // How long the stream is that is left, 8 bytes of StreamSize with it. Of 33 bytes: with no ciphertext, in each block and at its end, whole,
@@ -21,49 +23,43 @@ const SEGMENTS: [usize; 7] = [8, 24, 4103, 4104, 4105, 4120, 5000];
 // at its end, in the third, whole, and with the same surplus.
 const LAST_SEGMENT: [usize; 6] = [8200, 8215, 8216, 8217, 8232, 8256];
 
-// What a call is to show, how long its stream is, and what it counts.
-fn told(rt: &impl Print, what: &[u8], n: usize, counts: rescue::Counts) -> io::Result<()> {
-    lines::text(rt, b"rescue ")?;
-    lines::text(rt, what)?;
-    lines::text(rt, b", a stream of ")?;
-    lines::number(rt, n as u64)?;
-    lines::text(rt, b", recovered ")?;
-    lines::number(rt, counts.recovered as u64)?;
-    lines::text(rt, b" zeroed ")?;
-    lines::number(rt, counts.zeroed as u64)?;
-    lines::text(rt, b" surplus ")?;
-    lines::number(rt, counts.surplus as u64)
-}
-
-fn open(
+// Into a buffer of so many bytes, with the counts, of a refused call zeros.
+fn open<const N: usize>(
     rt: &impl Print,
-    what: &[u8],
-    info: &[u8],
-    password: &[u16],
-    scheme: u64,
+    what: &str,
+    lock: Lock,
     stream: &[u8],
-    out: &mut [u8],
+    mut out: [u8; N],
 ) -> io::Result<()> {
-    let r = rescue::open(info, password, scheme, stream, out);
-    told(rt, what, stream.len(), r.counts)?;
-    sheets::left(rt, r.reply, out)
+    let given = rescue::open(&lock, stream, &mut out);
+    let none = Counts {
+        recovered: 0,
+        zeroed: 0,
+        surplus: 0,
+    };
+    let Counts {
+        recovered,
+        zeroed,
+        surplus,
+    } = given.map_or(none, |r| r.counts);
+    let n = stream.len();
+    print!(rt;
+        "rescue {what}, a stream of {n}, recovered {recovered} zeroed {zeroed} surplus {surplus}"
+    )?;
+    sheets::left(rt, given.map(|r| r.size), &out)
 }
 
-// Each length of the stream, with the right password.
-fn each(
+// Each length of the stream.
+fn each<const N: usize>(
     rt: &impl Print,
-    what: &[u8],
-    info: &[u8],
-    scheme: u64,
+    what: &str,
+    lock: Lock,
     stream: &[u8],
     lengths: &[usize],
-    out: &mut [u8],
+    out: [u8; N],
 ) -> io::Result<()> {
-    let password = samples::password();
     for &length in lengths {
-        let left = samples::front(stream, length);
-        refill(out);
-        open(rt, what, info, &password, scheme, left, out)?;
+        open(rt, what, lock, front(stream, length), out)?;
     }
     Ok(())
 }
@@ -71,138 +67,102 @@ fn each(
 // A sheet of 33 bytes and one of 0, into a buffer of 40; zeros stand after the whole stream.
 fn short(rt: &impl Print, scheme: u64) -> io::Result<()> {
     let info = samples::info_128();
-    let mut stream = [0xa5u8; 8300];
-    let mut out = [0u8; 40];
-    sheets::seal_pattern(rt, b"33 bytes", &info, scheme, 33, true, &mut stream)?;
-    each(rt, b"33 bytes", &info, scheme, &stream, &OF_33, &mut out)?;
-    sheets::seal_pattern(rt, b"0 bytes", &info, scheme, 0, true, &mut stream)?;
-    each(rt, b"0 bytes", &info, scheme, &stream, &OF_0, &mut out)
+    let lock = right(&info, scheme);
+    let (stream, _) = sheets::seal_pattern(rt, "33 bytes", lock, 33, true)?;
+    each(rt, "33 bytes", lock, &stream, &OF_33, [0xa5; 40])?;
+    let (stream, _) = sheets::seal_pattern(rt, "0 bytes", lock, 0, true)?;
+    each(rt, "0 bytes", lock, &stream, &OF_0, [0xa5; 40])
 }
 
 // A segment with its extra block, into one of 4,200.
 fn one_segment(rt: &impl Print, scheme: u64) -> io::Result<()> {
     let info = samples::info_192();
-    let what = b"4,096 bytes with an extra block";
-    let mut stream = [0xa5u8; 8300];
-    let mut out = [0u8; 4200];
-    sheets::seal_pattern(rt, what, &info, scheme, 4096, true, &mut stream)?;
-    each(rt, what, &info, scheme, &stream, &SEGMENT, &mut out)?;
-    each(rt, what, &info, scheme, &stream, &EXTRA_BLOCK, &mut out)
+    let lock = right(&info, scheme);
+    let what = "4,096 bytes with an extra block";
+    let (stream, _) = sheets::seal_pattern(rt, what, lock, 4096, true)?;
+    each(rt, what, lock, &stream, &SEGMENT, [0xa5; 4200])?;
+    each(rt, what, lock, &stream, &EXTRA_BLOCK, [0xa5; 4200])
 }
 
 // Two segments and a byte, into one of 8,300.
 fn segments(rt: &impl Print, scheme: u64) -> io::Result<()> {
     let info = samples::info_256();
-    let what = b"8,193 bytes";
-    let mut stream = [0xa5u8; 8300];
-    let mut out = [0u8; 8300];
-    sheets::seal_pattern(rt, what, &info, scheme, 8193, true, &mut stream)?;
-    each(rt, what, &info, scheme, &stream, &SEGMENTS, &mut out)?;
-    each(rt, what, &info, scheme, &stream, &LAST_SEGMENT, &mut out)
+    let lock = right(&info, scheme);
+    let what = "8,193 bytes";
+    let (stream, _) = sheets::seal_pattern(rt, what, lock, 8193, true)?;
+    each(rt, what, lock, &stream, &SEGMENTS, [0xa5; 8300])?;
+    each(rt, what, lock, &stream, &LAST_SEGMENT, [0xa5; 8300])
 }
 
 // The first n bytes of zeros after a StreamSize, opened, which 15 forbids, and rescued.
-fn unopened(rt: &impl Print, what: &[u8], scheme: u64, size: u64, n: usize) -> io::Result<()> {
-    let info = samples::info_128();
-    let password = samples::password();
+fn unopened(rt: &impl Print, what: &str, lock: Lock, size: u64, n: usize) -> io::Result<()> {
     let zeros = zeros(size);
-    let stream = samples::front(&zeros, n);
-    let mut out = [0xa5u8; 48];
-    sheets::open(rt, what, &info, &password, scheme, stream, &mut out)?;
-    open(rt, what, &info, &password, scheme, stream, &mut out)
+    let stream = front(&zeros, n);
+    sheets::open(rt, what, lock, stream, [0xa5; 48])?;
+    open(rt, what, lock, stream, [0xa5; 48])
 }
 
-fn misfit(rt: &impl Print, scheme: u64) -> io::Result<()> {
-    unopened(rt, b"one block long at StreamSize 0", scheme, 0, 24)?;
-    unopened(rt, b"one block long at StreamSize 16", scheme, 16, 40)?;
-    unopened(rt, b"one block short at StreamSize 17", scheme, 17, 24)?;
-    unopened(rt, b"one byte short at StreamSize 17", scheme, 17, 39)?;
-    unopened(rt, b"one byte long at StreamSize 17", scheme, 17, 41)
+fn misfit(rt: &impl Print, lock: Lock) -> io::Result<()> {
+    unopened(rt, "one block long at StreamSize 0", lock, 0, 24)?;
+    unopened(rt, "one block long at StreamSize 16", lock, 16, 40)?;
+    unopened(rt, "one block short at StreamSize 17", lock, 17, 24)?;
+    unopened(rt, "one byte short at StreamSize 17", lock, 17, 39)?;
+    unopened(rt, "one byte long at StreamSize 17", lock, 17, 41)
 }
 
-// Into a buffer of 16 bytes, which is left as it is.
-fn refused(
-    rt: &impl Print,
-    what: &[u8],
-    info: &[u8],
-    password: &[u16],
-    scheme: u64,
-    stream: &[u8],
-) -> io::Result<()> {
-    let mut out = [0xa5u8; 16];
-    open(rt, what, info, password, scheme, stream, &mut out)
-}
-
-// The first n bytes of zeros after a StreamSize, with the right password.
-fn sized(
-    rt: &impl Print,
-    what: &[u8],
-    info: &[u8],
-    scheme: u64,
-    size: u64,
-    n: usize,
-) -> io::Result<()> {
-    let stream = zeros(size);
-    let front = samples::front(&stream, n);
-    refused(rt, what, info, &samples::password(), scheme, front)
+// The first n bytes of zeros after a StreamSize, into a buffer of 16 bytes, which is left as it is.
+fn sized(rt: &impl Print, what: &str, lock: Lock, size: u64, n: usize) -> io::Result<()> {
+    open(rt, what, lock, front(&zeros(size), n), [0xa5; 16])
 }
 
 // 13 and 14, with 16 broken too, and then 16, whether or not the stream is cut.
-fn framed(rt: &impl Print, info: &[u8], scheme: u64) -> io::Result<()> {
-    sized(
-        rt,
-        b"StreamSize 2^64 - 1",
-        info,
-        scheme,
-        0xffffffffffffffff,
-        7,
-    )?;
-    sized(rt, b"StreamSize 2^32 + 17", info, scheme, 4294967313, 40)?;
-    sized(rt, b"StreamSize 268,435,457", info, scheme, 268435457, 40)?;
-    sized(rt, b"StreamSize 268,435,456", info, scheme, 268435456, 40)?;
-    let cramped = b"StreamSize 17, room one byte short";
-    sized(rt, cramped, info, scheme, 17, 40)?;
-    sized(rt, cramped, info, scheme, 17, 8)
+fn framed(rt: &impl Print, lock: Lock) -> io::Result<()> {
+    let cramped = "StreamSize 17, room one byte short";
+    sized(rt, "StreamSize 2^64 - 1", lock, 0xffffffffffffffff, 7)?;
+    sized(rt, "StreamSize 2^32 + 17", lock, 4294967313, 40)?;
+    sized(rt, "StreamSize 268,435,457", lock, 268435457, 40)?;
+    sized(rt, "StreamSize 268,435,456", lock, 268435456, 40)?;
+    sized(rt, cramped, lock, 17, 40)?;
+    sized(rt, cramped, lock, 17, 8)
 }
 
 // What comes before the stream is looked at, each with a later rule broken too: 11, 12 and 19, and 10, which `unhashed` breaks.
-fn locked(rt: &impl Print, info: &[u8], unhashed: &[u8], scheme: u64) -> io::Result<()> {
-    let none = [0u8; 3];
-    refused(rt, b"256 units", info, &[0x61u16; 256], scheme, &none)?;
-    refused(rt, b"a wrong password", info, &[], scheme, &none)?;
-    refused(rt, b"scheme 3, a wrong password", info, &[], 3, &none)?;
-    let right = samples::password();
-    refused(
+fn locked(rt: &impl Print, lock: Lock, unhashed: Lock) -> io::Result<()> {
+    let wrong = tried(lock, &[]);
+    sized(rt, "256 units", tried(lock, &[0x61; 256]), 0, 3)?;
+    sized(rt, "a wrong password", wrong, 0, 3)?;
+    sized(
         rt,
-        b"scheme 3, VerifierHashSize 0",
-        unhashed,
-        &right,
+        "scheme 3, a wrong password",
+        Lock { scheme: 3, ..wrong },
+        0,
         3,
-        &none,
-    )
+    )?;
+    sized(rt, "scheme 3, VerifierHashSize 0", unhashed, 0, 3)
 }
 
 fn rescued(rt: &impl Print, scheme: u64) -> io::Result<()> {
     short(rt, scheme)?;
     one_segment(rt, scheme)?;
     segments(rt, scheme)?;
-    misfit(rt, scheme)
+    misfit(rt, right(&samples::info_128(), scheme))
 }
 
 fn refusals(rt: &impl Print, scheme: u64) -> io::Result<()> {
     let info = samples::info_128();
     let unhashed = with(info, 188, 0);
-    framed(rt, &info, scheme)?;
-    locked(rt, &info, &unhashed, scheme)
+    let lock = right(&info, scheme);
+    framed(rt, lock)?;
+    locked(rt, lock, right(&unhashed, 3))
 }
 
 pub fn all(rt: &impl Print) -> io::Result<()> {
-    lines::text(rt, b"rescues\n")?;
+    println!(rt; "rescues")?;
     rescued(rt, ECB)?;
-    lines::text(rt, b"rescues refused\n")?;
+    println!(rt; "rescues refused")?;
     refusals(rt, ECB)?;
-    lines::text(rt, b"rescues, chained\n")?;
+    println!(rt; "rescues, chained")?;
     rescued(rt, CHAINED)?;
-    lines::text(rt, b"rescues refused, chained\n")?;
+    println!(rt; "rescues refused, chained")?;
     refusals(rt, CHAINED)
 }

@@ -1,12 +1,11 @@
 -- Parts laid in a buffer of zeros, each right after the one before it, are the definitions' lists. Assumes nothing.
-use mathlib.Core.Path.{◌≡◌, refl, ap, ◌∙◌}
+use mathlib.Core.Path.{◌≡◌, refl}
 use mathlib.Core.List.{List}
 use Prim.Native.Nat.{ℕ}
-use lib.ListN.{length, take, replicate, length-append}
+use lib.ListN.{length, replicate, length-append}
 use lib.Seq.{paste}
 use Rattle.octets.specs.Octets.{le_bytes}
 use Rattle.octets.proofs.Numbers.{length_le_bytes}
-use Rattle.octets.proofs.Parts.{paste_whole}
 use Rattle.octets.proofs.Filled.{none, more, more_le, whole}
 use Rattle.descriptor.specs.declared.Descriptor.{Descriptor}
 use Rattle.crossing.specs.Crossing as Crossing
@@ -16,11 +15,6 @@ pub sixteen_laid : (low high : ℕ) (x y : List ℕ) → x ≡ paste (replicate 
     → y ≡ Crossing.sixteen low high
 unfolding Crossing.sixteen
 sixteen_laid low high x y e f = whole (more_le 8 8 0 high y (more_le 0 8 8 low x (none (replicate 16 0) 16 refl) e) f)
-
--- the first twelve of them
-pub twelve_laid : (low high : ℕ) (s x : List ℕ) → s ≡ Crossing.sixteen low high → x ≡ paste (replicate 12 0) 0 s 12 → x ≡ Crossing.twelve low high
-unfolding Crossing.twelve
-twelve_laid low high s x e f = f ∙ paste_whole (replicate 12 0) s 12 refl ∙ ap (take 12) e
 
 module _ (d : Descriptor) where
   -- the numbers of a descriptor

@@ -2,8 +2,7 @@
 -- choice, a descriptor. Assumes nothing.
 use Rattle.std.specs.Prelude.{◌≡◌, Bool, cond, not, List, ◌++◌, ℕ, ◌+◌, ◌*◌, ◌/◌, ◌%◌, ◌^◌, ◌<◌, ltb, eqb, length, take}
 use Rattle.octets.specs.Octets.{le_bytes}
-use Rattle.answers.specs.Ended.{reply}
-use Rattle.answers.specs.declared.Reply.{Reply}
+use Rattle.answers.specs.Ended.{Reply, reply}
 use Rattle.descriptor.specs.declared.BitCount.{BitCount}
 use Rattle.descriptor.specs.declared.Descriptor.{Descriptor}
 

@@ -5,11 +5,12 @@ ghost use Rattle.crossing.specs.Crossing as Crossing;
 use descriptor::Descriptor;
 
 // The numbers of a descriptor.
+#[tactic(auto, using(crate::proofs::Laid::numbers_laid))]
 fn numbers(d: Descriptor) -> [u8; 20]
     requires { Crossing.Crosses d }
     ensures { result ≡ Crossing.number_bytes d }
 {
-    let mut b = [0u8; 20];
+    let mut b = [0; 20];
     octets::put_le16(&mut b, 0, d.major);
     octets::put_le16(&mut b, 2, d.minor);
     octets::put_le32(&mut b, 4, d.alg_id);
@@ -24,15 +25,11 @@ pub fn descriptor_bytes(d: Descriptor) -> [u8; 88]
     requires { Crossing.Crosses d }
     ensures { result ≡ Crossing.descriptor_bytes d }
 {
-    let n = numbers(d);
-    let salt = d.salt;
-    let verifier = d.encrypted_verifier;
-    let hash = d.encrypted_verifier_hash;
-    let mut b = [0u8; 88];
-    octets::copy(&n, 0, 20, &mut b, 0);
-    octets::copy(&salt, 0, 16, &mut b, 20);
-    octets::copy(&verifier, 0, 16, &mut b, 36);
-    octets::copy(&hash, 0, 32, &mut b, 52);
+    let mut b = [0; 88];
+    octets::copy(&numbers(d), 0, 20, &mut b, 0);
+    octets::copy(&d.salt, 0, 16, &mut b, 20);
+    octets::copy(&d.encrypted_verifier, 0, 16, &mut b, 36);
+    octets::copy(&d.encrypted_verifier_hash, 0, 32, &mut b, 52);
     octets::put_le32(&mut b, 84, d.scheme as u32);
     b
 }

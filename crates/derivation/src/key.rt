@@ -9,30 +9,14 @@ use aes::Expanded;
 use descriptor::ByteCount;
 use sha1_digest::State;
 
-// Salt and password: two bytes a unit, low byte first, after the salt's sixteen.
-fn message(salt: [u8; 16], password: &[u16]) -> [u8; 526]
-    requires { length password.now ≤ 255 }
-    ensures { take (16 + 2 * length password.now) result ≡ salt ++ Key.unit_bytes password.now }
-{
-    let mut b = [0u8; 526];
-    octets::copy(&salt, 0, 16, &mut b, 0);
-    let mut i = 0;
-    while i < password.len() {
-        octets::put_le16(&mut b, 16 + 2 * i, password[i]);
-        i += 1;
-    }
-    b
-}
-
 // 64 bytes of c, with b xored into the first of them.
+#[tactic(auto, using(crate::proofs::Message::masked_none, crate::proofs::Message::masked_more, crate::proofs::Message::masked_all))]
 fn masked(c: u8, b: [u8; 20]) -> [u8; 64]
     ensures { result ≡ Key.masked c b }
 {
     let mut m = [c; 64];
-    let mut i = 0;
-    while i < 20 {
-        m[i] = c ^ b[i];
-        i += 1;
+    for (i, x) in b.iter().enumerate() {
+        m[i] = c ^ *x;
     }
     m
 }
@@ -57,29 +41,52 @@ fn derived(b: [u8; 20]) -> [u8; 40]
     k
 }
 
-// H: the state after salt and password and all the turns.
-pub fn password_hash(salt: [u8; 16], password: &[u16]) -> State
-    requires { length password.now ≤ 255 }
-    ensures { output result ≡ Key.password_hash salt password.now }
-{
-    let m = message(salt, password);
-    turns::spun(sha1_digest::hash(&m[..16 + 2 * password.len()]))
+// A password and the salt that it is hashed with. What is hashed of them is bounded, as a password is (01, rule 11).
+#[derive(Clone, Copy)]
+pub struct Salted<'a> {
+    pub salt: [u8; 16],
+    pub password: &'a [u16],
+    ghost short: { length password.now ≤ 255 },
 }
 
-// The forty bytes of which a key of any size is the first.
-pub fn material(salt: [u8; 16], password: &[u16]) -> [u8; 40]
-    requires { length password.now ≤ 255 }
-    ensures { result ≡ Key.material salt password.now }
-{
-    derived(sha1_digest::output(turns::block_hash(0, password_hash(salt, password))))
-}
+impl Salted<'_> {
+    // Salt and password: two bytes a unit, low byte first, after the salt's sixteen.
+    fn message(&self) -> [u8; 526]
+        ensures { take (16 + 2 * length self.now.password.now) result ≡ self.now.salt ++ Key.unit_bytes self.now.password.now }
+    {
+        let mut b = [0u8; 526];
+        octets::copy(&self.salt, 0, 16, &mut b, 0);
+        for (i, unit) in self.password.iter().enumerate() {
+            octets::put_le16(&mut b, 16 + 2 * i, *unit);
+        }
+        b
+    }
 
-// The key of so many bytes, expanded.
-pub fn expanded_key(size: ByteCount, salt: [u8; 16], password: &[u16]) -> Expanded
-    requires { (size.0 ≤ 40) × (length password.now ≤ 255) }
-    ensures { result ≡ expanded (Key.key_bytes size.0 salt password.now) }
-{
-    let n = size.0;
-    let bytes = material(salt, password);
-    aes::expand(&bytes[..n])
+    // H: the state after salt and password and all the turns.
+    #[tactic(auto, unfolding(crate::specs::Key::password_hash))]
+    pub fn hash(&self) -> State
+        ensures { output result ≡ Key.password_hash self.now.salt self.now.password.now }
+    {
+        let m = self.message();
+        turns::spun(sha1_digest::hash(&m[..16 + 2 * self.password.len()]))
+    }
+
+    // The forty bytes of which a key of any size is the first.
+    #[tactic(auto, unfolding(crate::specs::Key::material))]
+    pub fn material(&self) -> [u8; 40]
+        ensures { result ≡ Key.material self.now.salt self.now.password.now }
+    {
+        derived(sha1_digest::output(turns::block_hash(0, self.hash())))
+    }
+
+    // The key of so many bytes, expanded.
+    #[tactic(auto, unfolding(crate::specs::Key::key_bytes))]
+    pub fn expanded_key(&self, size: ByteCount) -> Expanded
+        requires { size.0 ≤ 40 }
+        ensures { result ≡ expanded (Key.key_bytes size.0 self.now.salt self.now.password.now) }
+    {
+        let n = size.0;
+        let bytes = self.material();
+        aes::expand(&bytes[..n])
+    }
 }

@@ -1,6 +1,6 @@
 // From a password to the key of a locked document (01, "From password to key"; 004 2.3.4.7, 000 sections 4 and 5).
 //
-//     let key = derivation::expanded_key(size, salt, units);
+//     let key = Salted { salt, password: units }.expanded_key(size);
 //
 // A password is 16-bit units as they are: any unit, none of them special. Who calls asks first that there are at most 255
 // (`password::text_answer`).
@@ -10,5 +10,5 @@
 mod key;
 mod turns;
 
-pub use key::{expanded_key, material, password_hash};
+pub use key::Salted;
 pub use turns::block_hash;

@@ -11,8 +11,7 @@ use lib.Dec.{eqb, lit≤}
 use Rattle.answers.specs.Rules.{OneOf}
 use Rattle.answers.proofs.Laws.{either}
 use Rattle.answers.proofs.Rows.{◌and◌}
-use Rattle.descriptor.specs.Info.{Algorithm, algorithms, look_up, suite, suite_of, alg_id_of}
-use Rattle.descriptor.specs.declared.Suite.{Suite}
+use Rattle.descriptor.specs.Info.{Algorithm, algorithms, look_up, Suite, suite, suite_of, alg_id_of}
 
 -- a row: one of three key sizes, as many rounds as AES has for it (six more than its key has words), and an AlgID that is not 0. Its
 -- bits give its AlgID, and its AlgID its bits and rounds
@@ -62,6 +61,12 @@ suite_known alg_id =
     found (λ (s : Suite). s.answer ≡ 0 → Known alg_id s) algorithms _ alg_id _ _ rows
     (λ x r e h. record { low = omega (arith, r.low); bits = r.size; rounds = r.rounds })
     (λ h. absurd (omega arith))
+
+-- one that is not is refused by number 6
+pub suite_unknown : (alg_id : ℕ) → ((suite_of alg_id).answer ≡ 0 → ⊥) → (suite_of alg_id).answer ≡ 6
+unfolding suite_of
+suite_unknown alg_id =
+    found (λ (s : Suite). (s.answer ≡ 0 → ⊥) → s.answer ≡ 6) algorithms _ alg_id _ _ rows (λ x r e h. absurd (h refl)) (λ h. refl)
 
 -- ---- by key size
 

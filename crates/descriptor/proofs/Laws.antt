@@ -9,7 +9,11 @@ use borrow.Author.Tests.{ltb-false, eqb-true, not-false, ne_eqb}
 use lib.Dec.{T, ltb, eqb}
 use lib.ListN.{length}
 use Rattle.octets.proofs.Parts.{length_part}
+use Rattle.std.specs.Prelude.{Ok, Err}
+use Rattle.answers.specs.Refusals.{number}
+use Rattle.answers.specs.declared.Refusal.{Refusal}
 use Rattle.answers.specs.Rules.{first_of, after, numbered, numbers, test_of, OneOf}
+use Rattle.answers.proofs.Refusals.{never_zero}
 use Rattle.answers.proofs.Laws.{either, neither, after_none, after_zero, none_broken, rule_holds, in_turn, numbers_both, by_numbers}
 use Rattle.descriptor.specs.Info as stream
 use Rattle.descriptor.specs.declared.Descriptor.{Descriptor}
@@ -62,6 +66,9 @@ module _ (s : List ℕ) (h : Admitted s) where
   pub alg_known : (stream.suite_of (stream.alg_id s)).answer ≡ 0
   unfolding stream.info_rules stream.numbers_of
   alg_known = eqb-true _ _ (not-false _ (keeps 6 s h))
+
+-- what the code's bounds need
+pub ruleset bounds = (header_low, info_length, extra_fits)
 
 -- ---- the scheme
 
@@ -126,6 +133,16 @@ module _ (s : List ℕ) (scheme : ℕ) where
 
   pub both_parse : Admitted s → KnownScheme scheme → Parses
   both_parse h o = parse_in_turn ∙ after_none _ _ h ∙ (scheme_known scheme).1 o
+
+  -- a refusal by the rules is the parse's
+  pub refused : (r : Refusal) → number r ≡ first_of (stream.parse_rules s scheme) → stream.parsed_of (Err r) ≡ stream.parsed s scheme
+  unfolding stream.parsed
+  refused r e = simp (← e, ne_eqb (number r) 0 (never_zero r))
+
+  -- and where they refuse nothing the fields are given
+  pub accepted : Parses → stream.parsed_of (Ok (stream.described s scheme)) ≡ stream.parsed s scheme
+  unfolding stream.parsed
+  accepted h = simp h
 
   pub parsed_answer : (stream.parsed s scheme).answer ≡ first_of (stream.parse_rules s scheme)
   unfolding stream.parsed

@@ -1,12 +1,14 @@
 -- EncryptionInfo of Standard encryption (01, "EncryptionInfo, byte for byte"; 004 2.3.2, 2.3.3 and 2.3.4.5, 000 section 2): its
 -- fields at their places, the rules 1 to 10 and 19, and what a parse gives. Assumes nothing.
-use Rattle.std.specs.Prelude.{Bool, cond, not, ◌&&◌, ◌||◌, List, [], ◌∷◌, ◌++◌, ℕ, ◌+◌, ◌-◌, ◌/◌, ◌%◌, ltb, eqb, length, take, drop, replicate}
+use Rattle.std.specs.Prelude.{Result, Ok, Err, Option, Some, None, Bool, cond, not, ◌&&◌, ◌||◌, List, [], ◌∷◌, ◌++◌, ℕ, ◌+◌, ◌-◌, ◌/◌, ◌%◌, ltb, eqb, length, take, drop, replicate}
 use Rattle.octets.specs.Octets.{le_at}
+use Rattle.answers.specs.Refusals.{number}
 use Rattle.answers.specs.Rules.{Rule, rule, first_of}
+use Rattle.answers.specs.declared.Refusal.{Refusal}
 use Rattle.descriptor.specs.declared.Numbers.{Numbers}
-use Rattle.descriptor.specs.declared.Suite.{Suite}
+use Rattle.descriptor.specs.declared.BitCount.{BitCount}
+use Rattle.descriptor.specs.declared.Suite as Found
 use Rattle.descriptor.specs.declared.Descriptor.{Descriptor}
-use Rattle.descriptor.specs.declared.Parsed.{Parsed}
 
 -- ---- the fields; bytes past the end count as 0
 
@@ -90,8 +92,18 @@ unfoldable pub look_up : {A : Type 0} → List Algorithm → (column : Algorithm
 look_up [] column n gives none = none
 look_up (x ∷ xs) column n gives none = cond (eqb n (column x)) (gives x) (look_up xs column n gives none)
 
+-- what an AlgID stands for: 0 beside its key size and rounds, or a refusal's number beside zeros
+pub record Suite : Type 0 where
+  pub answer : ℕ
+  pub bits : BitCount
+  pub rounds : ℕ
+
 abbrev pub suite : ℕ → ℕ → ℕ → Suite
 suite answer bits rounds = record { answer = answer; bits = record { 0 = bits }; rounds = rounds }
+
+abbrev pub suite_reply : Result Found.Suite Refusal → Suite
+suite_reply (Ok found) = suite 0 found.bits.0 found.rounds
+suite_reply (Err r) = suite (number r) 0 0
 
 -- key size in bits and rounds for an AlgID, or 6
 unfoldable pub suite_of : ℕ → Suite
@@ -100,6 +112,10 @@ suite_of alg_id = look_up algorithms (λ x. x.alg_id) alg_id (λ x. suite 0 x.bi
 -- the AlgID whose key has so many bits, 0 where there is none
 unfoldable pub alg_id_of : ℕ → ℕ
 alg_id_of bits = look_up algorithms (λ x. x.bits) bits (λ x. x.alg_id) 0
+
+-- a number where 0 stands for none
+abbrev pub unless_zero : ℕ → Option ℕ
+unless_zero n = cond (eqb n 0) None (Some n)
 
 -- ---- what each rule tests (01, "The numbered replies")
 
@@ -177,6 +193,15 @@ zeroed =
       encrypted_verifier_hash = replicate 32 0;
       scheme = 0;
     }
+
+-- what `parse` replies: 0 beside the descriptor, or a refusal's number beside zeros
+pub record Parsed : Type 0 where
+  pub answer : ℕ
+  pub fields : Descriptor
+
+abbrev pub parsed_of : Result Descriptor Refusal → Parsed
+parsed_of (Ok d) = record { answer = 0; fields = d }
+parsed_of (Err r) = record { answer = number r; fields = zeroed }
 
 -- what `parse` gives for every stream and scheme
 unfoldable pub parsed : List ℕ → (scheme : ℕ) → Parsed

@@ -1,7 +1,6 @@
 // EncryptionInfo of Standard encryption, parsed or refused (01, "EncryptionInfo, byte for byte"; 004 2.3.4.5, 000 section 2).
 //
-//     let p = descriptor::parse(info, descriptor::ECB);
-//     if p.answer == answers::DONE { .. p.fields.salt .. }
+//     let descriptor = descriptor::parse(info, descriptor::ECB)?;
 //
 // Both Flags, ProviderType, the Reserved fields, the name's text and the opaque bytes after it are not judged. The verifier's place
 // comes from HeaderSize alone, never from the name's text. By which scheme the package's blocks go together stands nowhere in the file:
@@ -9,36 +8,45 @@
 
 #![tactic(auto)]
 
-ghost use Rattle.std.specs.Prelude.{◌≡◌, ◌/◌};
+ghost use Rattle.std.specs.Prelude.{◌≡◌, ◌/◌, ◌++◌};
+ghost use Rattle.answers.specs.Refusals.{answer_of};
 ghost use Rattle.answers.specs.Rules.{first_of};
 ghost use Rattle.descriptor.specs.Info as stream;
 
-use answers::first;
-use octets::{le16, le32, sixteen, thirty_two};
+use answers::{Refusal, rule};
+use octets::{le16, le32, part};
 
 // The schemes: each block by itself (000 section 7), and chained in segments (001, 003).
+// kept: numbers, since the C interface gives any number (ropeshadow_parse), which rule 19 judges
 pub const ECB: u64 = 1;
 
 pub const CHAINED: u64 = 2;
 
 // A key's length as the file counts it. It is no count of bytes, and can't be used as one.
-#[derive(Clone, Copy)]
+#[derive(Clone, Copy, Debug, PartialEq, Eq)]
 pub struct BitCount(pub u32);
 
 // A key's length as everything but the file counts it.
-#[derive(Clone, Copy)]
+#[derive(Clone, Copy, Debug, PartialEq, Eq)]
 pub struct ByteCount(pub usize);
 
-// What an AlgID stands for: its key size and rounds, or refusal 6 with zeros.
-#[derive(Clone, Copy)]
+impl From<BitCount> for ByteCount {
+    ghost from_gives = { λ bits bytes. bytes ≡ record { 0 = bits.0 / 8 } };
+
+    fn from(bits: BitCount) -> ByteCount {
+        ByteCount((bits.0 / 8) as usize)
+    }
+}
+
+// What an AlgID stands for.
+#[derive(Clone, Copy, Debug, PartialEq, Eq)]
 pub struct Suite {
-    pub answer: u16,
     pub bits: BitCount,
     pub rounds: usize,
 }
 
 // The numbers of EncryptionInfo that are judged, as the file has them: bytes past its end count as 0.
-#[derive(Clone, Copy)]
+#[derive(Clone, Copy, Debug, PartialEq, Eq)]
 pub struct Numbers {
     // How many bytes EncryptionInfo has.
     pub length: usize,
@@ -57,7 +65,7 @@ pub struct Numbers {
 }
 
 // What EncryptionInfo says, and the scheme.
-#[derive(Clone, Copy)]
+#[derive(Clone, Copy, Debug, PartialEq, Eq)]
 pub struct Descriptor {
     pub major: u16,
     pub minor: u16,
@@ -72,85 +80,59 @@ pub struct Descriptor {
     pub scheme: u64,
 }
 
-// An answer, and the descriptor where it is 0: zeros where it is not.
-#[derive(Clone, Copy)]
-pub struct Parsed {
-    pub answer: u16,
-    pub fields: Descriptor,
-}
-
-// Key size and rounds of an AlgID.
-pub fn suite_of(alg_id: u32) -> Suite
-    ensures { result ≡ stream.suite_of alg_id }
+// Key size and rounds of an AlgID, where it is one of the three.
+#[tactic(auto, unfolding(crate::specs::Info::suite_of, crate::specs::Info::look_up, crate::specs::Info::algorithms))]
+pub fn suite_of(alg_id: u32) -> Result<Suite, Refusal>
+    ensures { stream.suite_reply result ≡ stream.suite_of alg_id }
 {
-    match alg_id {
-        0x660e => Suite {
-            answer: answers::DONE,
-            bits: BitCount(128),
-            rounds: 10,
-        },
-        0x660f => Suite {
-            answer: answers::DONE,
-            bits: BitCount(192),
-            rounds: 12,
-        },
-        0x6610 => Suite {
-            answer: answers::DONE,
-            bits: BitCount(256),
-            rounds: 14,
-        },
-        _ => Suite {
-            answer: answers::ALG_ID,
-            bits: BitCount(0),
-            rounds: 0,
-        },
-    }
+    let (bits, rounds) = match alg_id {
+        0x660e => (128, 10),
+        0x660f => (192, 12),
+        0x6610 => (256, 14),
+        _ => return Err(Refusal::AlgId),
+    };
+    Ok(Suite {
+        bits: BitCount(bits),
+        rounds,
+    })
 }
 
-// The AlgID whose key has so many bits, 0 where there is none.
-pub fn alg_id_of(bits: BitCount) -> u32
-    ensures { result ≡ stream.alg_id_of bits.0 }
+// The AlgID whose key has so many bits.
+#[tactic(auto, unfolding(crate::specs::Info::alg_id_of, crate::specs::Info::look_up, crate::specs::Info::algorithms))]
+pub fn alg_id_of(bits: BitCount) -> Option<u32>
+    ensures { result ≡ stream.unless_zero (stream.alg_id_of bits.0) }
 {
     let n = bits.0;
     match n {
-        128 => 0x660e,
-        192 => 0x660f,
-        256 => 0x6610,
-        _ => 0,
+        128 => Some(0x660e),
+        192 => Some(0x660f),
+        256 => Some(0x6610),
+        _ => None,
     }
 }
 
-// A count of bits in bytes.
-pub fn in_bytes(n: BitCount) -> ByteCount
-    ensures { result ≡ record { 0 = n.0 / 8 } }
-{
-    ByteCount((n.0 / 8) as usize)
-}
-
+#[tactic(auto, unfolding(crate::specs::Info::bad_version))]
 fn bad_version(major: u16, minor: u16) -> bool
     ensures { result ≡ stream.bad_version major minor }
 {
-    minor != 2 || (major < 2 || 4 < major)
+    minor != 2 || major < 2 || 4 < major
 }
 
+#[tactic(auto, unfolding(crate::specs::Info::bad_header_size))]
 fn bad_header_size(h: u32) -> bool
     ensures { result ≡ stream.bad_header_size h }
 {
     h < 32 || 4096 < h
 }
 
+#[tactic(auto, unfolding(crate::specs::Info::bad_name))]
 fn bad_name(h: u32, x: u32) -> bool
     ensures { result ≡ stream.bad_name h x }
 {
-    if h < 32 {
-        return true;
-    }
-    if h - 32 < x {
-        return true;
-    }
-    (h - 32 - x) % 2 != 0
+    h < 32 || h - 32 < x || (h - 32 - x) % 2 != 0
 }
 
+#[tactic(auto, unfolding(crate::specs::Info::bad_scheme))]
 fn bad_scheme(scheme: u64) -> bool
     ensures { result ≡ stream.bad_scheme scheme }
 {
@@ -177,94 +159,53 @@ fn numbers_of(s: &[u8]) -> Numbers
     }
 }
 
-// The first of the rules 1 to 10 that is broken, from the last to the first: each test stands by itself and costs little.
-fn answer(n: Numbers) -> u16
-    ensures { result ≡ first_of (stream.number_rules n) }
+// The rules 1 to 10, in order, and then the one on the scheme.
+#[tactic(auto, unfolding(answers::specs::Rules::first_of, crate::specs::Info::scheme_rules), using(crate::proofs::Algorithms::suite_unknown))]
+fn answer(n: Numbers, scheme: u64) -> Result<(), Refusal>
+    ensures { answer_of result ≡ first_of (stream.number_rules n ++ stream.scheme_rules scheme) }
 {
     let h = n.header_size;
-    let suite = suite_of(n.alg_id);
-    let rest = answers::DONE;
-    let rest = first(
-        n.verifier_hash_size != 20,
-        answers::VERIFIER_HASH_SIZE,
-        rest,
-    );
-    let rest = first(n.salt_size != 16, answers::SALT_SIZE, rest);
-    let rest = first(n.key_size.0 != suite.bits.0, answers::KEY_SIZE, rest);
-    let rest = first(n.alg_id_hash != 0x8004, answers::ALG_ID_HASH, rest);
-    let rest = first(suite.answer != answers::DONE, answers::ALG_ID, rest);
-    let rest = first(bad_name(h, n.size_extra), answers::NAME_LENGTH, rest);
-    let rest = first(n.length != h as usize + 84, answers::INFO_LENGTH, rest);
-    let rest = first(bad_header_size(h), answers::HEADER_SIZE, rest);
-    let rest = first(bad_version(n.major, n.minor), answers::VERSION, rest);
-    first(n.length < 12, answers::INFO_SHORT, rest)
-}
-
-// The rule on the scheme.
-fn scheme_answer(scheme: u64) -> u16
-    ensures { result ≡ first_of (stream.scheme_rules scheme) }
-{
-    first(bad_scheme(scheme), answers::SCHEME, answers::DONE)
+    rule(n.length < 12, Refusal::InfoShort)?;
+    rule(bad_version(n.major, n.minor), Refusal::Version)?;
+    rule(bad_header_size(h), Refusal::HeaderSize)?;
+    rule(n.length != h as usize + 84, Refusal::InfoLength)?;
+    rule(bad_name(h, n.size_extra), Refusal::NameLength)?;
+    let suite = suite_of(n.alg_id)?;
+    rule(n.alg_id_hash != 0x8004, Refusal::AlgIdHash)?;
+    rule(n.key_size.0 != suite.bits.0, Refusal::KeySize)?;
+    rule(n.salt_size != 16, Refusal::SaltSize)?;
+    rule(n.verifier_hash_size != 20, Refusal::VerifierHashSize)?;
+    rule(bad_scheme(scheme), Refusal::Scheme)
 }
 
 // The fields of a stream whose numbers break no rule.
+#[tactic(auto, unfolding(crate::specs::Info::numbers_of), using(crate::proofs::Laws::bounds))]
 fn described(s: &[u8], n: Numbers, scheme: u64) -> Descriptor
-    requires { (n ≡ stream.numbers_of s.now) × (first_of (stream.number_rules n) ≡ 0) }
+    requires { (n ≡ stream.numbers_of s.now) × (first_of (stream.info_rules s.now) ≡ 0) }
     ensures { result ≡ stream.described s.now scheme }
 {
     let h = n.header_size as usize;
-    let salt = sixteen(s, 16 + h);
-    let encrypted_verifier = sixteen(s, 32 + h);
-    let encrypted_verifier_hash = thirty_two(s, 52 + h);
     Descriptor {
         major: n.major,
         minor: n.minor,
         alg_id: n.alg_id,
-        key_size: in_bytes(n.key_size),
+        key_size: n.key_size.into(),
         name_place: 44,
         name_length: h - 32 - (n.size_extra as usize),
-        salt,
-        encrypted_verifier,
-        encrypted_verifier_hash,
+        salt: part(s, 16 + h),
+        encrypted_verifier: part(s, 32 + h),
+        encrypted_verifier_hash: part(s, 52 + h),
         scheme,
     }
 }
 
-// Zeros in every field.
-pub fn zeroed() -> Descriptor
-    ensures { result ≡ stream.zeroed }
+// The descriptor of a stream that breaks none of the rules 1 to 10 and of a scheme that does not break 19, else the first broken rule's
+// refusal.
+#[tactic(auto, unfolding(crate::specs::Info::parse_rules, crate::specs::Info::info_rules), using(crate::proofs::Laws::accepted))]
+pub fn parse(info: &[u8], scheme: u64) -> Result<Descriptor, Refusal>
+    ensures { stream.parsed_of result ≡ stream.parsed info.now scheme }
 {
-    let salt = [0u8; 16];
-    let encrypted_verifier = [0u8; 16];
-    let encrypted_verifier_hash = [0u8; 32];
-    Descriptor {
-        major: 0,
-        minor: 0,
-        alg_id: 0,
-        key_size: ByteCount(0),
-        name_place: 0,
-        name_length: 0,
-        salt,
-        encrypted_verifier,
-        encrypted_verifier_hash,
-        scheme: 0,
-    }
-}
-
-// The descriptor of a stream that breaks none of the rules 1 to 10 and of a scheme that does not break 19, or the first broken rule's
-// number.
-pub fn parse(info: &[u8], scheme: u64) -> Parsed
-    ensures { result ≡ stream.parsed info.now scheme }
-{
-    let n = numbers_of(info);
-    let a = answers::then(answer(n), scheme_answer(scheme));
-    if a != answers::DONE {
-        let fields = zeroed();
-        return Parsed { answer: a, fields };
-    }
-    let fields = described(info, n, scheme);
-    Parsed {
-        answer: answers::DONE,
-        fields,
-    }
+    let numbers = numbers_of(info);
+    answer(numbers, scheme)?;
+    Ok(described(info, numbers, scheme))
 }

@@ -5,7 +5,7 @@ use Prim.Native.Nat.{ℕ, zero, suc, ◌+◌, ◌*◌, ◌/◌, ◌%◌, ◌≤�
 use native.Mathlib.Numerals.{add-one}
 use native.Mathlib.Omega.{arith}
 use lib.ListN.{length, get_or, take, set}
-use lib.Seq.{take-suc, take-suc-set}
+use lib.Seq.{take-suc, take-suc-set, take_all}
 use Rattle.octets.specs.Octets.{Bytes, le, le_bytes, le_at}
 use Rattle.octets.proofs.Below.{tail_below}
 use Rattle.octets.proofs.Numbers.{le_at_past}
@@ -33,6 +33,10 @@ pub unit_next : (s d : List ℕ) (i v : ℕ) → i < length s / 2 → i < length
 unit_next s d i v h k e q =
     let l : i < length (units s) = omega (arith, length_units s) in
     rw (add-one, take-suc-set d i v k, e, take-suc (units s) i 0 l, unit_at s i (omega arith), q)
+
+-- where it ends all of them are laid
+pub units_laid : (s d : List ℕ) (i : ℕ) → i ≡ length s / 2 → take i d ≡ take i (units s) → take (length s / 2) d ≡ units s
+units_laid s d i e h = rw (← e) (h ∙ take_all i (units s) (omega (arith, length_units s)))
 
 -- of a file of even length no byte is lost or changed
 pub units_bytes : (s : List ℕ) → Bytes s → length s % 2 ≡ 0 → unit_bytes (units s) ≡ s

@@ -1,6 +1,7 @@
 -- The program's three files: rule 17, which stands before every other, and what the files open to (01, "The numbered replies" and
 -- "The program reads the files .."). Assumes nothing.
-use Rattle.std.specs.Prelude.{Bool, not, List, [], ◌∷◌, ◌++◌, ℕ, ◌+◌, ◌*◌, ◌%◌, ltb, eqb, length}
+use Rattle.std.specs.Borrow.{Bor}
+use Rattle.std.specs.Prelude.{Option, Some, None, Bool, true, false, not, List, [], ◌∷◌, ◌++◌, ℕ, ◌+◌, ◌*◌, ◌%◌, ltb, eqb, length}
 use Rattle.answers.specs.Rules.{Rule, rule, first_of}
 use Rattle.answers.specs.Ended.{Left, ended}
 use Rattle.password.specs.Lock.{Lock, lock_of}
@@ -14,6 +15,11 @@ pub record File : Type 0 where
 
 abbrev pub file : Bool → List ℕ → File
 file there bytes = record { there = there; bytes = bytes }
+
+-- the same as it is lent: none where it could not be read, and then its bytes do not count
+abbrev pub found : Option (Bor (List ℕ)) → File
+found (Some bytes) = file true bytes.now
+found None = file false []
 
 -- ---- what rule 17 tests
 

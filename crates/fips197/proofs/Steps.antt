@@ -6,6 +6,7 @@ use native.Mathlib.Numerals.{add-one}
 use native.Mathlib.Omega.{arith}
 use lib.ListN.{length, get_or, take, set, length-set}
 use lib.Seq.{take-suc, take_all, take-suc-set}
+use Rattle.std.proofs.lemmas.List.{ext_get_or}
 use Rattle.fips197.specs.Cipher.{tabulate, round, inv_round, rounds, inv_rounds}
 use Rattle.fips197.proofs.States.{opened}
 
@@ -31,6 +32,12 @@ pub get_d_tabulate : (n : ℕ) (f : ℕ → ℕ) (i : ℕ) → i < n → get_or 
 get_d_tabulate zero f i h = absurd (omega arith)
 get_d_tabulate (suc n) f zero h = refl
 get_d_tabulate (suc n) f (suc i) h = get_d_tabulate n (λ j. f (suc j)) i (omega arith)
+
+-- a list of n that holds at each place what f gives there
+pub tabulated : (n : ℕ) (f : ℕ → ℕ) (t : List ℕ) → length t ≡ n → ((i : ℕ) → i < n → get_or t i 0 ≡ f i) → t ≡ tabulate n f
+tabulated n f t size each =
+    ext_get_or 0 t (tabulate n f) (size ∙ sym (length_tabulate n f))
+    (λ i h. let l : i < n = omega arith in each i l ∙ sym (get_d_tabulate n f i l))
 
 -- of n places the first i hold what f gives there
 pub record Tabulated (n : ℕ) (f : ℕ → ℕ) (i : ℕ) (t : List ℕ) : Type 0 where

@@ -5,11 +5,12 @@ use Prim.Native.Nat.{ℕ, zero, suc, ◌+◌, ◌-◌, ◌*◌, ◌/◌, ◌%◌
 use native.Mathlib.Nat.{pow-suc, mul_comm, one-le-pow, mul-div_cancel, mul-mod_left, add_comm, add-zero, div-lt_iff_lt-mul}
 use native.Mathlib.Omega.{arith}
 use lib.Arith.{mod-mul}
-use lib.Bits.{bit_or, bit_xor, xor_self, xor_block, or_shifted}
+use lib.Bits.{bit_or, bit_xor, or_self, xor_self, xor_block, or_shifted}
 use lib.Dec.{lit<}
 use lib.ListN.{length, take, drop, replicate}
 use lib.Pow.{pow-add}
 use lib.Seq.{paste, take_at, drop_at, take-add, take_all, drop-drop}
+use Rattle.std.specs.Int.{w32, rotate_left}
 use Rattle.octets.specs.Octets.{Bytes, le, le_bytes, le_at}
 use Rattle.octets.proofs.Below.{tail_below}
 use Rattle.octets.proofs.Parts.{length_part, paste_two, paste_whole}
@@ -76,6 +77,17 @@ rotated k v h l =
 pub unmoved : (v : ℕ) → v < 2 ^ 32 → moved_word 0 v ≡ v
 unfolding moved_word moved le_bytes
 unmoved v l = le_le_bytes 4 v l
+
+-- as the library rotates a word
+pub rotated_left : (k v : ℕ) → k < 4 → v < 2 ^ 32 → rotate_left w32 v (8 * k) ≡ moved_word k v
+rotated_left zero v h l =
+    let low : v * 1 % 2 ^ 32 ≡ v = omega arith in
+    let high : v / 1 ≡ v = omega arith in
+    ap₂ bit_or low high ∙ or_self v ∙ sym (unmoved v l)
+rotated_left (suc k) v h l =
+    let up : 8 * suc k % 32 ≡ 8 * suc k = omega arith in
+    let down : (32 - 8 * suc k % 32) % 32 ≡ 32 - 8 * suc k = omega arith in
+    ap₂ (λ (m j : ℕ). bit_or (v * 2 ^ m % 2 ^ 32) (v / 2 ^ j)) up down ∙ rotated (suc k) v (omega arith) l
 
 -- ---- sums of what is read
 

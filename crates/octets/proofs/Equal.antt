@@ -5,6 +5,7 @@ use mathlib.Core.List.{List, [], ◌∷◌}
 use Prim.Native.Nat.{ℕ}
 use borrow.Author.Tests.{eq-eqb, eqb-true}
 use lib.Dec.{eqb}
+use lib.Pointwise.{pointwise}
 use Rattle.octets.specs.Octets.{same}
 
 pub same_self : (x : List ℕ) → same x x ≡ true
@@ -28,3 +29,11 @@ same_false x y h = decided (same x y) (λ e. h (same_true x y e))
     decided : (t : Bool) → (t ≡ true → ⊥) → t ≡ false
     decided true h = absurd (h refl)
     decided false h = refl
+
+-- what `==` says of two slices
+pub same_is : (x y : List ℕ) → pointwise eqb x y ≡ same x y
+unfolding same
+same_is [] [] = refl
+same_is [] (b ∷ y) = refl
+same_is (a ∷ x) [] = refl
+same_is (a ∷ x) (b ∷ y) = rw (same_is x y)

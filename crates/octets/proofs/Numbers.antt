@@ -3,11 +3,14 @@
 use mathlib.Core.Path.{◌≡◌, refl, sym, ap, subst, ◌∙◌}
 use mathlib.Core.List.{List, [], ◌∷◌, ◌++◌, reverse, reverse-append, reverse-reverse}
 use Prim.Native.Nat.{ℕ, zero, suc, ◌+◌, ◌*◌, ◌/◌, ◌%◌, ◌^◌, ◌≤◌, ◌<◌}
-use native.Mathlib.Nat.{pow-suc, pow-succ', one-le-pow, mul_assoc, suc-add, zero-add, mod-lt, div-div-eq-div-mul, div-eq_of_lt}
+use native.Mathlib.Numerals.{add-one}
+use native.Mathlib.Nat.{pow-zero, div-one, mul_comm, pow-suc, pow-succ', one-le-pow, mul_assoc, suc-add, zero-add, mod-lt, div-div-eq-div-mul, div-eq_of_lt}
 use native.Mathlib.Omega.{arith}
 use lib.Arith.{mod-mul}
 use lib.ListN.{replicate, length, get_or, take, drop, length-reverse}
 use lib.Seq.{paste, take-add, take-nil, take_all, take_at, drop-drop, drop-append-add}
+use Rattle.std.specs.Int.{sum_through, byte_worth, bytes_low_first, bytes_high_first, byte_at}
+use Rattle.std.specs.Prelude.{slice_index}
 use Rattle.octets.specs.Octets.{Bytes, le, le_bytes, le_at, be, be_bytes, be_at}
 use Rattle.octets.proofs.Below.{tail_below, take_below, drop_below, reverse_below}
 use Rattle.octets.proofs.Parts.{length_part, part_part, paste_whole, part_paste, reverse_replicate}
@@ -227,3 +230,41 @@ le_at_past n o x s = rw drop-append-add
 pub be_at_past : (n o : ℕ) (x s : List ℕ) → be_at n (length x + o) (x ++ s) ≡ be_at n o s
 unfolding be_at
 be_at_past n o x s = rw drop-append-add
+
+-- ---- as the library has them
+
+byte_is : (i v : ℕ) → byte_at i v ≡ v / 256 ^ i % 256
+byte_is zero v = rw (pow-zero, div-one)
+byte_is (suc i) v = refl
+
+-- what `to_le_bytes` and `to_be_bytes` write
+low_first_from : (n i v : ℕ) → bytes_low_first i n v ≡ le_bytes n (v / 256 ^ i)
+unfolding le_bytes
+low_first_from zero i v = refl
+low_first_from (suc n) i v =
+    let up : v / 256 ^ suc i ≡ v / 256 ^ i / 256 = rw pow-suc (sym (div-div-eq-div-mul v (256 ^ i) 256)) in
+    rw (byte_is i v, low_first_from n (suc i) v, up)
+
+pub low_first_bytes : (n v : ℕ) → bytes_low_first 0 n v ≡ le_bytes n v
+low_first_bytes n v = low_first_from n 0 v ∙ ap (le_bytes n) (rw (pow-zero, div-one))
+
+pub high_first_bytes : (n v : ℕ) → bytes_high_first n v ≡ be_bytes n v
+unfolding be_bytes le_bytes
+high_first_bytes zero v = refl
+high_first_bytes (suc n) v = rw (byte_is n v, high_first_bytes n v) (sym (rw add-one at (be_bytes_add n 1 v)))
+
+-- a byte more, at its worth
+le_more : (n o : ℕ) (s : List ℕ) → le_at (suc n) o s ≡ le_at n o s + get_or s (o + n) 0 * 256 ^ n
+le_more n o s = rw add-one at (le_at_add n 1 o s) ∙ rw (le_at_one (o + n) s, mul_comm (256 ^ n) (get_or s (o + n) 0))
+
+-- what `from_le_bytes` adds up
+pub le_sum : (k : ℕ) (r : List ℕ) → sum_through (λ i. byte_worth i (slice_index r i)) k ≡ le_at (suc k) 0 r
+le_sum zero r = sym (le_at_one 0 r)
+le_sum (suc k) r = rw (le_sum k r) (sym (rw zero-add at (le_more (suc k) 0 r)))
+
+-- bytes read one by one, 0 past the end
+pub le_padded : (n o : ℕ) (r x : List ℕ) → ((i : ℕ) → i < n → get_or r i 0 ≡ get_or x (o + i) 0) → le_at n 0 r ≡ le_at n o x
+unfolding le_at le
+le_padded zero o r x h = refl
+le_padded (suc n) o r x h =
+    rw zero-add at (le_more n 0 r) ∙ rw (le_padded n o r x (λ i l. h i (omega arith)), h n (omega arith)) (sym (le_more n o x))

@@ -9,12 +9,12 @@ use lib.Seq.{paste, ext_get_or, get_or-take, get_or-drop}
 use Rattle.octets.specs.Octets.{same}
 use Rattle.octets.proofs.Equal.{same_self, same_false}
 use Rattle.octets.proofs.Parts.{length_part}
-use Rattle.aes.specs.Aes.{key_length, expanded}
-use Rattle.aes.specs.declared.Expanded.{Expanded}
+use Rattle.aes.specs.Aes.{key_length, expanded, expanded_of}
+use Rattle.aes.specs.declared.round_keys.RoundKeys.{RoundKeys}
 use Rattle.steps.specs.Steps.{open_all}
 use Rattle.steps.proofs.Made.{length_open_all}
-use Rattle.blocks.specs.Blocks.{ecb_under, step_from, ecb_mode, stream_start}
-use Rattle.blocks.specs.declared.Mode.{Mode}
+use Rattle.blocks.specs.Blocks.{ecb_under, step_from, stream_start}
+use Rattle.blocks.specs.declared.Mode.TheVariants.{Ecb}
 use Rattle.blocks.specs.declared.Place.{Place}
 use Rattle.blocks.proofs.Aes.{under_width, under_sized, ecb_started, laid_under}
 use Rattle.password.specs.Verifier.{verifier_opening}
@@ -37,9 +37,9 @@ module _ (x y : List ℕ) (hx : length x ≡ 20) (hy : length y ≡ 48) where
   agree_not i l h = sym (same_false x stored (λ e. h (ap (λ (z : List ℕ). get_or z i 0) e ∙ stored_at i l)))
 
 -- 48 bytes decrypted into as many
-pub opened_law : (key : Expanded) (m : Mode) (p : Place) (k s x : List ℕ) → key_length (length k) ≡ true → key ≡ expanded k → m ≡ ecb_mode → p ≡ stream_start
-    → length s ≡ 48 → x ≡ paste (replicate 48 0) 0 (open_all (step_from p m key.bytes key.rounds) s) 48 → x ≡ verifier_opening k s
+pub opened_law : (key : RoundKeys) (p : Place) (k s x : List ℕ) → key_length (length k) ≡ true → expanded_of key ≡ expanded k → p ≡ stream_start
+    → length s ≡ 48 → x ≡ paste (replicate 48 0) 0 (open_all (step_from p Ecb key.bytes key.rounds) s) 48 → x ≡ verifier_opening k s
 unfolding verifier_opening
-opened_law key m p k s x t q g h l e =
-    laid_under open_all (step_from p m key.bytes key.rounds) (ecb_under k) 48 (replicate 48 0) s x
-    (ecb_started k t m key p (ap (λ (n : Mode). n.chained) g) q h) refl (length_open_all (ecb_under k) (under_sized k) s ∙ rw (under_width k, l)) e
+opened_law key p k s x t q h l e =
+    laid_under open_all (step_from p Ecb key.bytes key.rounds) (ecb_under k) 48 (replicate 48 0) s x
+    (ecb_started k t key p q h) refl (length_open_all (ecb_under k) (under_sized k) s ∙ rw (under_width k, l)) e

@@ -1,6 +1,6 @@
 -- The ways out of the verdict: a law for each, for this crate's proofs and those above. Assumes nothing.
 use mathlib.Core.Path.{◌≡◌, refl, sym, ap, ap₂, ◌∙◌}
-use mathlib.Core.Bool.{Bool, true, false}
+use mathlib.Core.Bool.{Bool, true, false, cond, not}
 use mathlib.Core.List.{List, [], ◌∷◌, ◌++◌}
 use mathlib.Core.Logic.{◌↔◌, inl, inr, ⊎_elim}
 use Prim.Native.Nat.{ℕ, ◌≤◌}
@@ -9,20 +9,24 @@ use borrow.Author.Tests.{ltb-false, le-ltb, ne_eqb, eqb-true, eqb-false}
 use lib.Dec.{T, eqb}
 use lib.ListN.{length}
 use Rattle.octets.specs.Octets.{Bytes}
+use Rattle.std.specs.Prelude.{Ok, Err}
+use Rattle.answers.specs.Refusals.{number}
+use Rattle.answers.specs.declared.Refusal.{Refusal}
 use Rattle.answers.specs.Rules.{first_of, after, numbered, numbers}
+use Rattle.answers.proofs.Refusals.{never_zero, stops}
 use Rattle.answers.proofs.Laws.{either, in_turn, after_none, after_some, after_zero, numbers_both, by_numbers, both_zero, none_broken}
 use Rattle.aes.specs.Aes.{key_length, expanded}
 use Rattle.aes.proofs.Keys.{key_lengths}
-use Rattle.descriptor.specs.Info.{parse_rules, parsed}
+use Rattle.descriptor.specs.Info.{Parsed, parse_rules, parsed_of, parsed}
 use Rattle.descriptor.specs.declared.Descriptor.{Descriptor}
-use Rattle.descriptor.specs.declared.Parsed.{Parsed}
 use Rattle.descriptor.proofs.Laws.{Admitted, KnownScheme, Parses, WellFormed, parse_list, parse_numbers_lem, parse_numbered, both_parse, parsed_answer, parsed_fields}
 use Rattle.derivation.specs.Key.{key_bytes}
 use Rattle.derivation.proofs.Laws.{length_key_bytes, key_bytes_bytes}
 use Rattle.password.specs.Lock.{Lock, descriptor_of}
 use Rattle.password.specs.Verifier.{verifier_opening, matches}
 use Rattle.password.specs.Verdict as Verdict
-use Rattle.password.specs.declared.Unlocked.{Unlocked}
+use Rattle.password.specs.Verdict.{Unlocked}
+use Rattle.password.specs.declared.Unlocked as Given
 
 -- ---- the key
 
@@ -118,6 +122,23 @@ module _ (lock : Lock) where
   unfolding Verdict.unlocked
   by_early h = rw (in_order, after_some early (first_of (Verdict.verifier_rules d lock.password)) h) (simp (ne_eqb _ _ h))
 
+  -- a refusal before anything is hashed is the verdict's
+  refused_early : (r : Refusal) → number r ≡ early → Verdict.unlocked_of (Err r) ≡ Verdict.unlocked lock
+  refused_early r e = ap Verdict.refused_unlock e ∙ sym (by_early (λ z. never_zero r (e ∙ z)))
+
+  pub refused_by_parse : (r : Refusal) → parsed_of (Err r) ≡ parse_of → Verdict.unlocked_of (Err r) ≡ Verdict.unlocked lock
+  refused_by_parse r h =
+      let e : number r ≡ first_of (parse_rules lock.info lock.scheme) = ap (λ (p : Parsed). p.answer) h ∙ parsed_answer lock.info lock.scheme in
+      refused_early r (stops r _ e _ ∙ sym early_in_turn)
+
+  pub refused_by_text : Parses lock.info lock.scheme → (r : Refusal) → number r ≡ first_of (Verdict.text_rules lock.password)
+      → Verdict.unlocked_of (Err r) ≡ Verdict.unlocked lock
+  refused_by_text p r e = refused_early r (e ∙ sym (early_in_turn ∙ after_none _ _ p))
+
+  module _ (p : Parses lock.info lock.scheme) (t : first_of (Verdict.text_rules lock.password) ≡ 0) where
+    pub none_early : early ≡ 0
+    none_early = early_in_turn ∙ after_none _ _ p ∙ t
+
   module _ (z : early ≡ 0) where
     rest : Verdict.judged lock ≡ first_of (Verdict.verifier_rules d lock.password)
     rest = in_order ∙ after_none early (first_of (Verdict.verifier_rules d lock.password)) z
@@ -133,6 +154,22 @@ module _ (lock : Lock) where
     unfolding Verdict.unlocked Verdict.verifier_rules first_of
     done m = rw rest (simp m)
 
+    -- what the rule on the verifier makes of it
+    pub refused_by_verifier : (r : Refusal) → number r ≡ cond (not (Matched d lock.password)) 12 0 → Verdict.unlocked_of (Err r) ≡ Verdict.unlocked lock
+    refused_by_verifier r e =
+        elim (either (Matched d lock.password)) [
+          | inl m ↦ absurd (never_zero r (e ∙ rw m))
+          | inr m ↦ ap Verdict.refused_unlock (e ∙ rw m) ∙ sym (by_verifier m)
+        ]
+
+    pub unlocked_by_verifier : ◌≡◌ {A = ℕ} 0 (cond (not (Matched d lock.password)) 12 0)
+        → Verdict.unlocked lock ≡ record { answer = 0; fields = d; key = expanded (Verdict.key_of d lock.password) }
+    unlocked_by_verifier e =
+        elim (either (Matched d lock.password)) [
+          | inl m ↦ done m
+          | inr m ↦ let z : ◌≡◌ {A = ℕ} 0 12 = e ∙ rw m in absurd (omega (arith, z))
+        ]
+
 -- the answer is the verdict, whichever way out
 pub unlocked_answer : (lock : Lock) → (Verdict.unlocked lock).answer ≡ Verdict.judged lock
 unfolding Verdict.unlocked Verdict.refused_unlock
@@ -141,6 +178,14 @@ unlocked_answer lock =
       | inl e ↦ rw e (sym (eqb-true _ _ e))
       | inr e ↦ rw e
     ]
+
+-- so a refusal of `unlock` has the verdict's number, and what it unlocks comes with a verdict of 0
+pub refused_number : (lock : Lock) (r : Refusal) → Verdict.unlocked_of (Err r) ≡ Verdict.unlocked lock → number r ≡ Verdict.judged lock
+unfolding Verdict.refused_unlock
+refused_number lock r e = ap (λ (u : Unlocked). u.answer) e ∙ unlocked_answer lock
+
+pub unlocked_zero : (lock : Lock) (u : Given.Unlocked) → Verdict.unlocked_of (Ok u) ≡ Verdict.unlocked lock → Verdict.judged lock ≡ 0
+unlocked_zero lock u e = sym (ap (λ (r : Unlocked). r.answer) e ∙ unlocked_answer lock)
 
 -- a verdict of 0 means an admitted EncryptionInfo and scheme and a short text, and comes with the descriptor and the expanded key
 module _ (lock : Lock) (v : Verdict.judged lock ≡ 0) where

@@ -1,14 +1,16 @@
 -- The verdict on a password (01, rules 11 and 12; 004 2.3.4.9, 000 section 6), and what comes with it. Assumes nothing.
-use Rattle.std.specs.Prelude.{cond, not, List, [], ◌∷◌, ◌++◌, ℕ, ltb, eqb, length, replicate}
+use Rattle.std.specs.Prelude.{Result, Ok, Err, cond, not, List, [], ◌∷◌, ◌++◌, ℕ, ltb, eqb, length, replicate}
+use Rattle.answers.specs.Refusals.{number}
+use Rattle.answers.specs.declared.Refusal.{Refusal}
 use Rattle.answers.specs.Rules.{Rule, rule, first_of, after}
-use Rattle.aes.specs.Aes.{expanded}
-use Rattle.descriptor.specs.Info.{parse_rules, zeroed}
+use Rattle.aes.specs.Aes.{expanded, expanded_of}
+use Rattle.aes.specs.declared.Expanded.{Expanded}
+use Rattle.descriptor.specs.Info.{Parsed, parse_rules, zeroed}
 use Rattle.descriptor.specs.declared.Descriptor.{Descriptor}
-use Rattle.descriptor.specs.declared.Parsed.{Parsed}
 use Rattle.derivation.specs.Key.{key_bytes}
 use Rattle.password.specs.Lock.{Lock, descriptor_of}
 use Rattle.password.specs.Verifier.{verifier_opening, matches}
-use Rattle.password.specs.declared.Unlocked.{Unlocked}
+use Rattle.password.specs.declared.Unlocked as Given
 
 -- the key of a descriptor and a password, as long as the descriptor says
 unfoldable pub key_of : Descriptor → (password : List ℕ) → List ℕ
@@ -43,9 +45,19 @@ verdict_rules lock = early_rules lock ++ verifier_rules (descriptor_of lock) loc
 unfoldable pub judged : Lock → ℕ
 judged lock = first_of (verdict_rules lock)
 
+-- what `unlock` replies: 0 beside the descriptor and the expanded key, or a refusal's number
+pub record Unlocked : Type 0 where
+  pub answer : ℕ
+  pub fields : Descriptor
+  pub key : Expanded
+
 -- a refusal carries nothing: zeros in every field, and a key of zeros and no rounds
 unfoldable pub refused_unlock : (answer : ℕ) → Unlocked
 refused_unlock answer = record { answer = answer; fields = zeroed; key = record { bytes = replicate 240 0; rounds = 0 } }
+
+abbrev pub unlocked_of : Result Given.Unlocked Refusal → Unlocked
+unlocked_of (Ok u) = record { answer = 0; fields = u.fields; key = expanded_of u.key }
+unlocked_of (Err r) = refused_unlock (number r)
 
 -- what `unlock` gives: the descriptor and the expanded key where the answer is 0
 unfoldable pub unlocked : Lock → Unlocked

@@ -1,10 +1,11 @@
 // The password check (004 2.3.4.9, 000 section 6): the verifier's hash against what is stored.
-ghost use Rattle.std.specs.Prelude.{◌≡◌, ℕ, ◌≤◌, ◌<◌, true, List, ◌++◌, length, take, drop};
+ghost use Rattle.std.specs.Prelude.{◌≡◌, ℕ, true, List, ◌++◌, length, take, drop};
 ghost use Rattle.octets.specs.Octets.{same};
-ghost use Rattle.aes.specs.Aes.{key_length, expanded};
+ghost use Rattle.aes.specs.Aes.{key_length, expanded, expanded_of};
 ghost use Rattle.password.specs.Verifier as Verifier;
 
-use aes::Expanded;
+use aes::RoundKeys;
+use blocks::Mode;
 
 // EncryptedVerifier and EncryptedVerifierHash, one after the other.
 fn fields(verifier: [u8; 16], hash: [u8; 32]) -> [u8; 48]
@@ -16,13 +17,12 @@ fn fields(verifier: [u8; 16], hash: [u8; 32]) -> [u8; 48]
     b
 }
 
-// They, decrypted under the expanded key of a key, each block by itself under every scheme.
-fn opened(key: Expanded, fields: [u8; 48]) -> [u8; 48]
-    requires { (0 < key.rounds) × (key.rounds ≤ 14) }
-    ensures { (k : List ℕ) → key_length (length k) ≡ true → key ≡ expanded k → result ≡ Verifier.verifier_opening k fields }
+// They, decrypted under the round keys of a key, each block by itself under every scheme.
+fn opened(key: RoundKeys, fields: [u8; 48]) -> [u8; 48]
+    ensures { (k : List ℕ) → key_length (length k) ≡ true → expanded_of key ≡ expanded k → result ≡ Verifier.verifier_opening k fields }
 {
     let mut plain = [0u8; 48];
-    blocks::decrypt(key, blocks::ecb(), blocks::start(), &fields, 48, &mut plain);
+    blocks::decrypt(key, Mode::Ecb, blocks::start(), &fields, 48, &mut plain);
     plain
 }
 
@@ -30,20 +30,12 @@ fn opened(key: Expanded, fields: [u8; 48]) -> [u8; 48]
 fn agree(digest: [u8; 20], plain: [u8; 48]) -> bool
     ensures { result ≡ same digest (take 20 (drop 16 plain)) }
 {
-    let mut i = 0;
-    while i < 20 {
-        if digest[i] != plain[16 + i] {
-            return false;
-        }
-        i += 1;
-    }
-    true
+    digest[..] == plain[16..36]
 }
 
-// Whether the verifier's hash is what was stored, under the expanded key of a key.
-pub fn matches(key: Expanded, verifier: [u8; 16], hash: [u8; 32]) -> bool
-    requires { (0 < key.rounds) × (key.rounds ≤ 14) }
-    ensures { (k : List ℕ) → key_length (length k) ≡ true → key ≡ expanded k → result ≡ Verifier.matches (Verifier.verifier_opening k) verifier hash }
+// Whether the verifier's hash is what was stored, under the round keys of a key.
+pub fn matches(key: RoundKeys, verifier: [u8; 16], hash: [u8; 32]) -> bool
+    ensures { (k : List ℕ) → key_length (length k) ≡ true → expanded_of key ≡ expanded k → result ≡ Verifier.matches (Verifier.verifier_opening k) verifier hash }
 {
     let plain = opened(key, fields(verifier, hash));
     let digest = sha1_digest::output(sha1_digest::hash(&plain[..16]));

@@ -4,6 +4,7 @@ ghost use Rattle.std.specs.Prelude.{◌≡◌};
 ghost use Rattle.fips197.specs.Field as Field;
 
 // x times a: where the highest bit falls out, 0x1b comes in.
+#[tactic(auto, unfolding(fips197::specs::Field::double, fips197::specs::Field::xor))]
 pub fn double(a: u8) -> u8
     ensures { result ≡ Field.double a }
 {

@@ -1,7 +1,6 @@
 -- Whichever files were read, what they open to lies within the output. Assumes nothing.
 use Rattle.std.proofs.Common.{List, ℕ, ◌≤◌, length, ap, arith}
-use Rattle.answers.specs.Ended.{Left}
-use Rattle.answers.specs.declared.Reply.{Reply}
+use Rattle.answers.specs.Ended.{Reply, Left}
 use Rattle.files.proofs.Laws.{size_within}
 use Rattle.program.specs.Run.{OpensFiles}
 

@@ -1,8 +1,7 @@
 -- What can be said of a run: no contract says which bytes the system handed over, so these say what holds whichever they were. Assumes
 -- nothing.
 use Rattle.std.specs.Prelude.{◌≡◌, ◌⊎◌, List, ℕ}
-use Rattle.answers.specs.Ended.{left, reply}
-use Rattle.answers.specs.declared.Reply.{Reply}
+use Rattle.answers.specs.Ended.{Reply, left, reply}
 use Rattle.files.specs.Files.{File, files_opened}
 
 -- the reply, and the output from what it was to what it is, are those of some three files

@@ -9,10 +9,10 @@
 mod input;
 mod output;
 
+ghost use Rattle.answers.specs.Refusals.{reply_of};
 ghost use Rattle.program.specs.Run.{OpensFiles, Settled};
 
-use answers::Reply;
-use files::There;
+use answers::Refusal;
 use std::io;
 use std::rt::Files;
 
@@ -20,60 +20,55 @@ use std::rt::Files;
 const SHEET_ROOM: usize = 65536;
 
 // Reads the files and opens them into out.
-fn open_files(rt: &impl Files, out: &mut [u8]) -> Reply
-    ensures { OpensFiles result out.old out.new }
+fn open_files(rt: &impl Files, out: &mut [u8]) -> Result<usize, Refusal>
+    ensures { OpensFiles (reply_of result) out.old out.new }
 {
     let mut info = [0u8; input::ROOM];
     let mut password = [0u8; input::ROOM];
     let mut stream = [0u8; input::ROOM];
-    let i = input::read_file(rt, "info.bin", &mut info);
-    let p = input::read_file(rt, "password.bin", &mut password);
-    let s = input::read_file(rt, "package.bin", &mut stream);
-    let there = There {
-        info: i.there,
-        password: p.there,
-        stream: s.there,
-    };
-    let ni = i.size;
-    let np = p.size;
-    let ns = s.size;
-    files::open(there, &info[..ni], &password[..np], &stream[..ns], out)
+    let info = input::read_file(rt, "info.bin", &mut info);
+    let password = input::read_file(rt, "password.bin", &mut password);
+    let stream = input::read_file(rt, "package.bin", &mut stream);
+    files::open(info.ok(), password.ok(), stream.ok(), out)
 }
 
-// Writes the sheet on answer 0. One that cannot be written counts as a file that is missing, and standard error has the reason.
-fn settled(rt: &(impl Files + Eprint + AllocGlobal), r: Reply, sheet: &[u8]) -> Reply
-    ensures { Settled r result }
+// Writes the sheet that was opened. One that cannot be written counts as a file that is missing, and standard error has the reason.
+fn settled(
+    rt: &(impl Files + Eprint + AllocGlobal),
+    opened: Result<usize, Refusal>,
+    sheet: &[u8],
+) -> Result<usize, Refusal>
+    ensures { Settled (reply_of opened) (reply_of result) }
 {
-    if r.answer == answers::DONE {
-        if let Err(why) = output::write_sheet(rt, sheet) {
-            output::fail(rt, why);
-            return Reply {
-                answer: answers::FILES,
-                size: 0,
-            };
-        }
+    let size = opened?;
+    if let Err(why) = output::write_sheet(rt, sheet) {
+        output::fail(rt, why);
+        return Err(Refusal::Files);
     }
-    r
+    Ok(size)
 }
 
 // `answer N size S`.
-fn print_line(rt: &impl Print, r: Reply) -> io::Result<()> {
-    println!(rt; "answer {} size {}", r.answer, r.size)
+fn print_line(rt: &impl Print, settled: Result<usize, Refusal>) -> io::Result<()> {
+    println!(rt;
+        "answer {} size {}",
+        answers::number(settled),
+        settled.unwrap_or(0)
+    )
 }
 
 // One run.
 pub fn run(rt: &(impl Files + Print + Eprint + AllocGlobal)) -> io::Result<()> {
     let mut out = [0u8; SHEET_ROOM];
-    let r = open_files(rt, &mut out);
-    let size = r.size;
-    print_line(rt, settled(rt, r, &out[..size]))
+    let opened = open_files(rt, &mut out);
+    let sheet = &out[..opened.unwrap_or(0)];
+    print_line(rt, settled(rt, opened, sheet))
 }
 
 // What sheet.bin holds, in hexadecimal: for programs that show that an older sheet is replaced, or left as it was.
 pub fn show_sheet(rt: &(impl Files + Print)) -> io::Result<()> {
-    let mut sheet = [0u8; input::ROOM];
-    let s = input::read_file(rt, "sheet.bin", &mut sheet);
-    let n = s.size;
-    lines::hex(rt, &sheet[..n])?;
+    let mut room = [0u8; input::ROOM];
+    let sheet = input::read_file(rt, "sheet.bin", &mut room).unwrap_or(&[]);
+    lines::hex(rt, sheet)?;
     lines::text(rt, b"\n")
 }

@@ -6,7 +6,7 @@ use mathlib.Core.List.{List}
 use Prim.Native.Nat.{ℕ}
 use lib.ListN.{length}
 use Rattle.answers.specs.Ended.{Left}
-use Rattle.answers.specs.declared.Reply.{Reply}
+use Rattle.answers.specs.Ended.{Reply}
 use Rattle.answers.proofs.Laws.{listed_in}
 use Rattle.password.specs.Lock.{Lock}
 use Rattle.sheet.specs.Sheet.{seal_rules, sealed}

@@ -10,13 +10,13 @@ use lib.ListN.{length}
 use lib.Seq.{slice}
 use Rattle.answers.specs.Rules.{Rule, AllHold, OneOf}
 use Rattle.answers.specs.Ended.{Left, left, reply}
-use Rattle.answers.specs.declared.Reply.{Reply}
+use Rattle.answers.specs.Ended.{Reply}
 use Rattle.sha1_digest.specs.Sha1.{sha1, hash_rules, hashed}
-use Rattle.sha1_digest.specs.declared.Hashed.{Hashed}
+use Rattle.sha1_digest.specs.Sha1.{Hashed}
 use Rattle.aes.specs.Aes.{encryption, decryption, encrypted, decrypted}
-use Rattle.aes.specs.declared.Reply as Aes
+use Rattle.aes.specs.Aes as Aes
 use Rattle.descriptor.specs.Info.{parse_rules, described, parsed}
-use Rattle.descriptor.specs.declared.Parsed.{Parsed}
+use Rattle.descriptor.specs.Info.{Parsed}
 use Rattle.password.specs.Verdict.{judged, verdict_rules}
 use Rattle.password.specs.Lock.{Lock}
 use Rattle.sheet.specs.Sheet.{open_rules, seal_rules, package_of, filled_with, sealing_of, opened, sealed}
@@ -70,13 +70,13 @@ one_hashing m h k =
     λ i. record { answer = e.0 i; bytes = e.1 i }
 
 -- of a block, by either direction: the key's length decides the answer
-one_enciphering : (cipher : (key block : List ℕ) → List ℕ) (key block : List ℕ) (r s : Aes.Reply) → Enciphering cipher key block r → Enciphering cipher key block s → r ≡ s
+one_enciphering : (cipher : (key block : List ℕ) → List ℕ) (key block : List ℕ) (r s : Aes.BlockReply) → Enciphering cipher key block r → Enciphering cipher key block s → r ≡ s
 one_enciphering cipher key block r s k d =
     let a : r.answer ≡ s.answer = one_of_two r.answer s.answer k.ends.answer d.ends.answer (λ z. d.accepts.1 (k.accepts.0 z)) (λ z. k.accepts.1 (d.accepts.0 z)) in
     let b : r.block ≡ s.block = one_given _ _ _ _ 0 0 _ _ k.ends d.ends a (λ z. k.published z ∙ sym (d.published (sym a ∙ z))) in
     λ i. record { answer = a i; block = b i }
 
-module _ (key block : List ℕ) (r : Aes.Reply) where
+module _ (key block : List ℕ) (r : Aes.BlockReply) where
   pub one_encrypting : Enciphering encryption key block r → r ≡ encrypted key block
   one_encrypting k = one_enciphering encryption key block r _ k (encrypting key block)
 

@@ -9,10 +9,10 @@ use native.Mathlib.Omega.{arith}
 use lib.ListN.{length}
 use Rattle.answers.specs.Rules.{OneOf}
 use Rattle.answers.specs.Ended.{Left, left, reply}
-use Rattle.answers.specs.declared.Reply.{Reply}
+use Rattle.answers.specs.Ended.{Reply}
 use Rattle.sha1_digest.specs.Sha1.{sha1, hash_rules, hashed}
 use Rattle.aes.specs.Aes.{key_length, encryption, decryption, encrypted, decrypted}
-use Rattle.aes.specs.declared.Reply as Aes
+use Rattle.aes.specs.Aes as Aes
 use Rattle.descriptor.specs.Info.{parse_rules, described, parsed}
 use Rattle.password.specs.Lock.{Lock}
 use Rattle.rescue.specs.Rescue.{Rescue, rescue, if_done, rescued}
@@ -59,7 +59,7 @@ hash_out message out =
       answers = subst⁻¹ (λ (r : Reply). Answers (hash_rules message) r.answer) (hash_told message out) k.answers;
     }
 
-block_out : (cipher : (key block : List ℕ) → List ℕ) (key block out : List ℕ) (r : Aes.Reply) → Enciphering cipher key block r
+block_out : (cipher : (key block : List ℕ) → List ℕ) (key block out : List ℕ) (r : Aes.BlockReply) → Enciphering cipher key block r
     → told (Capi.block_outcome r out).word ≡ reply r.answer 0 → BlockOut cipher key block out (Capi.read_back (Capi.block_outcome r out))
 unfolding Capi.block_outcome
 block_out cipher key block out r k t =

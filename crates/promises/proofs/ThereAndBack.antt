@@ -13,10 +13,10 @@ use lib.Seq.{take_at}
 use Rattle.octets.specs.Octets.{Bytes}
 use Rattle.answers.specs.Rules.{Rule, rule, OneOf, first_of, room_rules}
 use Rattle.answers.specs.Ended.{Left, left, gives}
-use Rattle.answers.specs.declared.Reply.{Reply}
+use Rattle.answers.specs.Ended.{Reply}
 use Rattle.answers.proofs.Laws.{either, in_turn, listed_in, numbers_both}
 use Rattle.descriptor.specs.Info.{parsed}
-use Rattle.descriptor.specs.declared.Parsed.{Parsed}
+use Rattle.descriptor.specs.Info.{Parsed}
 use Rattle.password.specs.Verdict.{verdict_rules, judged}
 use Rattle.password.specs.Lock.{Lock, lock_of}
 use Rattle.password.proofs.Laws.{verdict_numbered, verdict_numbers_lem}

@@ -4,13 +4,13 @@ use Rattle.std.specs.Prelude.{◌≡◌, ◌↔◌, Bool, true, List, ◌++◌, 
 use Rattle.std.proofs.Math.Seq.{slice}
 use Rattle.answers.specs.Rules.{AllHold}
 use Rattle.answers.specs.Ended.{Left, left, gives}
-use Rattle.answers.specs.declared.Reply.{Reply}
+use Rattle.answers.specs.Ended.{Reply}
 use Rattle.sha1_digest.specs.Sha1.{sha1, hash_rules}
-use Rattle.sha1_digest.specs.declared.Hashed.{Hashed}
+use Rattle.sha1_digest.specs.Sha1.{Hashed}
 use Rattle.aes.specs.Aes.{key_length}
-use Rattle.aes.specs.declared.Reply as Aes
+use Rattle.aes.specs.Aes as Aes
 use Rattle.descriptor.specs.Info.{parse_rules, described}
-use Rattle.descriptor.specs.declared.Parsed.{Parsed}
+use Rattle.descriptor.specs.Info.{Parsed}
 use Rattle.password.specs.Verdict.{verdict_rules}
 use Rattle.password.specs.Lock.{Lock}
 use Rattle.lengths.specs.Lengths.{stream_size, filling_for}
@@ -37,7 +37,7 @@ pub record Hashing (message : List ℕ) (h : Hashed) : Type 0 where
   pub published : AllHold (hash_rules message) → h.bytes ≡ sha1 message
 
 -- a block under a key, by encryption or decryption
-pub record Enciphering (cipher : (key block : List ℕ) → List ℕ) (key block : List ℕ) (r : Aes.Reply) : Type 0 where
+pub record Enciphering (cipher : (key block : List ℕ) → List ℕ) (key block : List ℕ) (r : Aes.BlockReply) : Type 0 where
   pub ends : Block r
   pub accepts : (r.answer ≡ 0) ↔ (key_length (length key) ≡ true)
   pub published : r.answer ≡ 0 → r.block ≡ cipher key block

@@ -5,7 +5,7 @@ use Rattle.std.specs.Prelude.{◌≡◌, Bool, List, [], ◌∷◌, ◌++◌, �
 use Rattle.answers.specs.Rules.{OneOf}
 use Rattle.answers.specs.Ended.{Left}
 use Rattle.descriptor.specs.Info.{zeroed}
-use Rattle.descriptor.specs.declared.Parsed.{Parsed}
+use Rattle.descriptor.specs.Info.{Parsed}
 use Rattle.password.specs.Lock.{Lock}
 use Rattle.sheet.specs.Sheet.{package_of, filled_with, sealing_of}
 use Rattle.promises.specs.Words.{Parser, Judge, Opener, Sealer, Accepted}

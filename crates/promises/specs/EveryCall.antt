@@ -3,9 +3,9 @@
 use Rattle.std.specs.Prelude.{Bool, List, [], ◌∷◌, ℕ, replicate}
 use Rattle.answers.specs.Ended.{Left}
 use Rattle.sha1_digest.specs.Sha1.{hashed}
-use Rattle.sha1_digest.specs.declared.Hashed.{Hashed}
+use Rattle.sha1_digest.specs.Sha1.{Hashed}
 use Rattle.aes.specs.Aes.{encrypted, decrypted}
-use Rattle.aes.specs.declared.Reply.{Reply}
+use Rattle.aes.specs.Aes.{BlockReply}
 use Rattle.descriptor.specs.Info.{parsed}
 use Rattle.password.specs.Verdict.{judged}
 use Rattle.password.specs.Lock.{Lock}
@@ -38,7 +38,7 @@ file_numbers = 17 ∷ open_numbers
 abbrev pub Hash : Hashed → Type 0
 Hash h = Concludes hash_numbers (replicate 20 0) h.answer 0 h.bytes
 
-abbrev pub Block : Reply → Type 0
+abbrev pub Block : BlockReply → Type 0
 Block r = Concludes block_numbers (replicate 16 0) r.answer 0 r.block
 
 -- a rescue: refused, it leaves besides the counts as `unset` says

@@ -4,7 +4,7 @@ use Rattle.std.specs.Prelude.{◌≡◌, ◌↔◌, Bool, List, [], ◌∷◌, �
 use Rattle.answers.specs.Rules.{Rule, OneOf, AllHold, First}
 use Rattle.answers.specs.Ended.{Left}
 use Rattle.descriptor.specs.Info.{key_size, salt_of}
-use Rattle.descriptor.specs.declared.Parsed.{Parsed}
+use Rattle.descriptor.specs.Info.{Parsed}
 use Rattle.derivation.specs.Key.{key_bytes}
 use Rattle.password.specs.Lock.{Lock}
 use Rattle.rescue.specs.Rescue.{Rescue}

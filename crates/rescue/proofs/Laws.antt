@@ -8,18 +8,22 @@ use Prim.Native.Nat.{ℕ, zero, suc, ◌-◌, ◌≤◌}
 use borrow.Author.Tests.{ltb-false, le-ltb}
 use lib.Dec.{T, ltb}
 use lib.ListN.{length, replicate}
+use Rattle.std.specs.Prelude.{Err}
 use Rattle.answers.specs.Rules.{Rule, rule, first_of, after, room_rules, numbered, numbers, OneOf}
 use Rattle.answers.specs.Ended.{left, reply}
+use Rattle.answers.specs.Refusals.{number}
+use Rattle.answers.specs.declared.Refusal.{Refusal}
+use Rattle.answers.proofs.Refusals.{never_zero, stops}
 use Rattle.answers.proofs.Laws.{in_turn, then, after_none, both_zero, none_broken, front_holds, left_out, not_one, numbers_both, by_numbers, room_numbers, roomy}
 use Rattle.answers.proofs.Endings.{ended_answer, ended_refused, ended_done}
 use Rattle.password.specs.Lock.{Lock}
-use Rattle.password.specs.Verdict.{judged, verdict_rules}
-use Rattle.password.proofs.Laws.{verdict_numbered, verdict_list, verdict_numbers_lem}
+use Rattle.password.specs.Verdict.{judged, verdict_rules, unlocked, unlocked_of}
+use Rattle.password.proofs.Laws.{refused_number, verdict_numbered, verdict_list, verdict_numbers_lem}
 use Rattle.lengths.specs.Lengths.{stream_size, package_limit, length_allowed, size_rules}
 use Rattle.lengths.proofs.Rules.{length_last, limited, size_numbered, size_numbers}
 use Rattle.sheet.specs.Sheet.{sheet_step, open_rules}
 use Rattle.sheet.proofs.Laws.{open_listed}
-use Rattle.rescue.specs.Rescue.{head_rules, rescue_rules, counted, none, rescue, remains, if_done, rescued}
+use Rattle.rescue.specs.Rescue.{head_rules, rescue_rules, counted, none, rescue, remains, if_done, rescued, rescued_of}
 use Rattle.rescue.specs.declared.Counts.{Counts}
 
 -- ---- the rules on the stream
@@ -110,9 +114,24 @@ module _ (lock : Lock) (s out : List ℕ) where
   unfolding rescued
   rescue_done z = ap₂ rescue (ended_done answer (stream_size s) (remains lock s) out z) (if_done_lem answer counts_of none z)
 
+  pub rescue_after : judged lock ≡ 0 → answer ≡ first_of (head_rules s (length out))
+  rescue_after v = rescue_in_turn ∙ after_none (judged lock) _ v
+
+  -- refused by the verdict, and after it by the stream
+  module _ (r : Refusal) where
+    refused : number r ≡ answer → rescued_of (Err r) out ≡ rescued lock s out
+    refused e =
+        ap (λ (n : ℕ). rescue (left (reply n 0) out) none) e ∙ sym (rescue_refused (λ z. never_zero r (e ∙ z)))
+
+    pub rescue_locked : unlocked_of (Err r) ≡ unlocked lock → rescued_of (Err r) out ≡ rescued lock s out
+    rescue_locked e = refused (stops r _ (refused_number lock r e) _ ∙ sym rescue_in_turn)
+
+    pub rescue_unfit : judged lock ≡ 0 → number r ≡ first_of (head_rules s (length out)) → rescued_of (Err r) out ≡ rescued lock s out
+    rescue_unfit v e = refused (e ∙ sym (rescue_after v))
+
   -- the verdict is 0, and the stream can be rescued: so no rule is broken
   pub rescue_kept : judged lock ≡ 0 → Rescuable s (length out) → answer ≡ 0
-  rescue_kept v k = rescue_in_turn ∙ after_none (judged lock) _ v ∙ (rescuable s (length out)).1 k
+  rescue_kept v k = rescue_after v ∙ (rescuable s (length out)).1 k
 
   pub rescue_holds : answer ≡ 0 → (judged lock ≡ 0) × Rescuable s (length out)
   unfolding rescue_rules judged

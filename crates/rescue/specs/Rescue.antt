@@ -1,13 +1,16 @@
 -- What can be had of a sheet that was cut, or that has too many bytes (request 2026-13): the answer, the size, the counts and every byte of
 -- the output, for every input. Assumes nothing.
-use Rattle.std.specs.Prelude.{true, List, ◌∷◌, ◌++◌, ℕ, zero, suc, ◌-◌, ◌*◌, ◌/◌, min, ltb, length, replicate}
+use Rattle.std.specs.Prelude.{Result, Ok, Err, true, List, ◌∷◌, ◌++◌, ℕ, zero, suc, ◌-◌, ◌*◌, ◌/◌, min, ltb, length, replicate}
 use Rattle.answers.specs.Rules.{Rule, rule, first_of, room_rules}
-use Rattle.answers.specs.Ended.{Left, ended}
+use Rattle.answers.specs.Ended.{Left, left, reply, ended}
+use Rattle.answers.specs.Refusals.{number}
+use Rattle.answers.specs.declared.Refusal.{Refusal}
 use Rattle.password.specs.Lock.{Lock}
 use Rattle.password.specs.Verdict.{verdict_rules}
 use Rattle.lengths.specs.Lengths.{stream_size, rounded, size_rules}
 use Rattle.sheet.specs.Sheet.{sheet_step, package_of}
 use Rattle.rescue.specs.declared.Counts.{Counts}
+use Rattle.rescue.specs.declared.Rescued as Given
 
 -- ---- the rules, in order
 
@@ -45,6 +48,11 @@ pub record Rescue : Type 0 where
 
 abbrev pub rescue : Left → Counts → Rescue
 rescue l c = record { left = l; counts = c }
+
+-- the same as `open` gives it, over the output: no count on a refusal
+abbrev pub rescued_of : Result Given.Rescued Refusal → (out : List ℕ) → Rescue
+rescued_of (Ok r) out = rescue (left (reply 0 r.size) out) r.counts
+rescued_of (Err r) out = rescue (left (reply (number r) 0) out) none
 
 -- the package as far as it goes, since of a stream that is cut whole units alone are opened, and zeros for the rest of it
 unfoldable pub remains : Lock → (stream : List ℕ) → List ℕ

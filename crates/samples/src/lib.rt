@@ -6,9 +6,7 @@
 ghost use Rattle.std.specs.Prelude.{◌+◌, ◌≤◌};
 
 // "password", in 16-bit units.
-pub fn password() -> [u16; 8] {
-    [0x70, 0x61, 0x73, 0x73, 0x77, 0x6f, 0x72, 0x64]
-}
+pub static PASSWORD: [u16; 8] = [0x70, 0x61, 0x73, 0x73, 0x77, 0x6f, 0x72, 0x64];
 
 // 00 to 0f, rising.
 pub fn rising() -> [u8; 16] {
@@ -34,41 +32,31 @@ fn frame(alg: u32, bits: u32) -> [u8; 224] {
     octets::put_le32(&mut s, 32, 24);
     octets::put_le32(&mut s, 152, 16);
     octets::put_le32(&mut s, 188, 20);
-    named(s)
+    name(&mut s);
+    s
 }
 
 // The provider name's letters, two bytes each.
-fn named(s: [u8; 224]) -> [u8; 224] {
+fn name(s: &mut [u8; 224]) {
     let letters = b"Microsoft Enhanced RSA and AES Cryptographic Provider";
-    let mut t = s;
-    let mut i = 0;
-    while i < 53 {
-        t[44 + 2 * i] = letters[i];
-        i += 1;
+    for (i, letter) in letters.iter().enumerate() {
+        s[44 + 2 * i] = *letter;
     }
-    t
 }
 
-// The same with sixteen other bytes at a place.
-fn with(s: [u8; 224], at: usize, part: [u8; 16]) -> [u8; 224]
-    requires { at + 16 ≤ 224 }
+// A stream with other bytes at a place.
+pub fn with<const N: usize>(s: [u8; 224], at: usize, part: [u8; N]) -> [u8; 224]
+    requires { at + N ≤ 224 }
 {
     let mut t = s;
-    octets::copy(&part, 0, 16, &mut t, at);
+    octets::copy(&part, 0, N, &mut t, at);
     t
 }
 
-// All of it, EncryptedVerifierHash in two blocks.
-fn info(
-    alg: u32,
-    bits: u32,
-    salt: [u8; 16],
-    verifier: [u8; 16],
-    hash: [u8; 16],
-    rest: [u8; 16],
-) -> [u8; 224] {
+// All of it.
+fn info(alg: u32, bits: u32, salt: [u8; 16], verifier: [u8; 16], hash: [u8; 32]) -> [u8; 224] {
     let s = with(frame(alg, bits), 156, salt);
-    with(with(with(s, 172, verifier), 192, hash), 208, rest)
+    with(with(s, 172, verifier), 192, hash)
 }
 
 // AES-128: the salt, and so the key, of 000 8.1.
@@ -78,8 +66,7 @@ pub fn info_128() -> [u8; 224] {
         128,
         stepping(),
         *b"\x75\x43\x48\x67\x80\x88\x47\xa6\x12\xa9\xad\xb6\x79\x53\x0a\x73",
-        *b"\xab\x84\xec\x5b\xea\x96\xf5\xbf\x89\x36\x4b\xf7\x76\xac\xcc\x55",
-        *b"\x8e\x1f\xb1\x01\x63\xf5\x64\x31\x7d\xbb\xea\x6c\x36\x58\xe9\x3d",
+        *b"\xab\x84\xec\x5b\xea\x96\xf5\xbf\x89\x36\x4b\xf7\x76\xac\xcc\x55\x8e\x1f\xb1\x01\x63\xf5\x64\x31\x7d\xbb\xea\x6c\x36\x58\xe9\x3d",
     )
 }
 
@@ -90,8 +77,7 @@ pub fn info_192() -> [u8; 224] {
         192,
         rising(),
         *b"\xde\xe1\xa1\xd2\xc1\x4b\x61\x28\x86\x44\x42\x92\x60\x71\xb1\x62",
-        *b"\x07\x55\x6c\x93\x55\x91\x93\x20\x54\xa9\x04\x25\x76\xd1\xa7\x94",
-        *b"\xa9\xb8\xe9\xa0\x6d\x50\x7b\x73\x9d\xc1\x11\xf9\xaf\x00\x07\x99",
+        *b"\x07\x55\x6c\x93\x55\x91\x93\x20\x54\xa9\x04\x25\x76\xd1\xa7\x94\xa9\xb8\xe9\xa0\x6d\x50\x7b\x73\x9d\xc1\x11\xf9\xaf\x00\x07\x99",
     )
 }
 
@@ -102,21 +88,16 @@ pub fn info_256() -> [u8; 224] {
         256,
         rising(),
         *b"\x25\x89\xae\xbb\x86\x0b\x8a\x41\xfa\x69\x0e\x76\xed\x56\xb0\xbe",
-        *b"\xde\xdd\xb6\xb2\x9f\x9c\xd3\x82\xa0\xa2\x04\xa5\x1b\x7f\xdf\x7e",
-        *b"\xb1\x23\x3f\x14\xfe\x5c\x99\xd9\x6f\x5d\xe4\xdb\x08\x3d\x92\x5e",
+        *b"\xde\xdd\xb6\xb2\x9f\x9c\xd3\x82\xa0\xa2\x04\xa5\x1b\x7f\xdf\x7e\xb1\x23\x3f\x14\xfe\x5c\x99\xd9\x6f\x5d\xe4\xdb\x08\x3d\x92\x5e",
     )
 }
 
 // The first n bytes, or all where there are not so many.
 pub fn front(s: &[u8], n: usize) -> &[u8] {
-    if n <= s.len() { &s[..n] } else { s }
+    &s[..n.min(s.len())]
 }
 
-// Byte i becomes i modulo 251.
-pub fn pattern(s: &mut [u8]) {
-    let mut i = 0;
-    while i < s.len() {
-        s[i] = (i % 251) as u8;
-        i += 1;
-    }
+// Byte i is i modulo 251.
+pub fn pattern<const N: usize>() -> [u8; N] {
+    std::array::from_fn(|i| (i % 251) as u8)
 }

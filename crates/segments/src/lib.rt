@@ -7,47 +7,33 @@
 
 #![tactic(auto)]
 
-ghost use Rattle.std.specs.Prelude.{◌≡◌, ◌≤◌, length};
-ghost use Rattle.std.proofs.Math.Seq.{paste};
-ghost use Rattle.octets.specs.Octets.{le_bytes};
+ghost use Rattle.std.specs.Prelude.{◌≡◌};
 ghost use Rattle.steps.specs.Chained as Chained;
 ghost use Rattle.segments.specs.Start.{start_of};
 
-// A segment's number behind the salt.
-fn put_number(m: &mut [u8], number: u32)
-    requires { 20 ≤ length m.old }
-    ensures { m.new ≡ paste m.old 16 (le_bytes 4 number) 4 }
-{
-    octets::put_le32(m, 16, number);
-}
-
 // The starting vector of a segment. Salt and number are one block of the hash, with what ends it.
+#[tactic(auto, unfolding(crate::specs::Start::start_of), using(crate::proofs::Vectors::message_laid))]
 pub fn starting_vector(salt: [u8; 16], number: u32) -> [u8; 16]
     ensures { result ≡ start_of salt number }
 {
     let mut message = [0u8; 20];
     octets::copy(&salt, 0, 16, &mut message, 0);
-    put_number(&mut message, number);
+    octets::put_le32(&mut message, 16, number);
     let digest = sha1_digest::output(sha1_digest::hash(&message));
-    octets::sixteen(&digest, 0)
+    octets::part(&digest, 0)
 }
 
 // The segment of a block, counted from 0, in a package of so many bytes.
+#[tactic(auto, unfolding(steps::specs::Chained::segment))]
 fn segment(size: usize, number: usize) -> usize
     ensures { result ≡ Chained.segment size number }
 {
-    if size == 0 {
-        return 0;
-    }
-    let last = (size - 1) / 4096;
-    let n = number / 256;
-    if n < last {
-        return n;
-    }
-    last
+    let last = size.saturating_sub(1) / 4096;
+    (number / 256).min(last)
 }
 
 // Whether a segment begins with a block.
+#[tactic(auto, unfolding(steps::specs::Chained::begins, steps::specs::Chained::segment))]
 pub fn begins(size: usize, number: usize) -> bool
     ensures { result ≡ Chained.begins size number }
 {

@@ -11,6 +11,10 @@ use Rattle.octets.proofs.Numbers.{be_at_part}
 use Rattle.sha1_rounds.specs.declared.State.{State}
 use Rattle.sha1_digest.specs.Sha1 as fips
 
+pub block_none : (p m : List ℕ) (o : ℕ) → take 0 m ≡ fips.block_words p o 0
+unfolding fips.block_words
+block_none p m o = refl
+
 -- a block's next word, stored where it belongs
 pub block_more : (p m : List ℕ) (o t v : ℕ) → t < length m → take t m ≡ fips.block_words p o t → v ≡ be_at 4 (o + 4 * t) p
     → take (t + 1) (set m t v) ≡ fips.block_words p o (t + 1)

@@ -1,11 +1,12 @@
 -- SHA-1 as FIPS 180-4 defines it. A word is a number below 2 ^ 32, a message a list of bytes. Assumes nothing.
-use Rattle.std.specs.Prelude.{cond, ℕ, zero, suc, ◌+◌, ◌-◌, ◌*◌, ◌/◌, ◌%◌, ltb, eqb, length, replicate}
+use Rattle.std.specs.Prelude.{Result, Ok, Err, cond, ℕ, zero, suc, ◌+◌, ◌-◌, ◌*◌, ◌/◌, ◌%◌, ltb, eqb, length, replicate}
 use mathlib.Core.List.{List, [], ◌∷◌, ◌++◌, flat_map}
 use Rattle.octets.specs.Octets.{be_at, be_bytes}
+use Rattle.answers.specs.Refusals.{number}
 use Rattle.answers.specs.Rules.{Rule, rule, first_of}
+use Rattle.answers.specs.declared.Refusal.{Refusal}
 use Rattle.sha1_rounds.specs.declared.State.{State}
 pub use Rattle.sha1_rounds.specs.Compression.{round_words, start, compress}
-use Rattle.sha1_digest.specs.declared.Hashed.{Hashed}
 
 -- ---- a whole message
 
@@ -40,6 +41,15 @@ sha1 m = output (chain (pad m) (length (pad m) / 64) start)
 -- 01's reply 18, a house limit
 unfoldable pub hash_rules : List ℕ → List Rule
 hash_rules m = rule 18 (ltb 65536 (length m)) ∷ []
+
+-- what `digest` replies: 0 beside the hash, or a refusal's number beside zeros
+pub record Hashed : Type 0 where
+  pub answer : ℕ
+  pub bytes : List ℕ
+
+abbrev pub hashed_of : Result (List ℕ) Refusal → Hashed
+hashed_of (Ok hash) = record { answer = 0; bytes = hash }
+hashed_of (Err r) = record { answer = number r; bytes = replicate 20 0 }
 
 -- what `digest` gives for a message: the hash, or twenty zeros where it is refused
 unfoldable pub hashed : List ℕ → Hashed

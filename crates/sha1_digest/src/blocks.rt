@@ -3,52 +3,52 @@ ghost use Rattle.std.specs.Prelude.{◌≡◌, ◌+◌, ◌*◌, ◌≤◌, ◌<
 ghost use Rattle.sha1_digest.specs.Sha1 as fips;
 ghost use Rattle.sha1_digest.specs.Ending.{Ends};
 
-use sha1_rounds::rounds::round_words;
-use sha1_rounds::{State, compress, start};
+use sha1_rounds::{State, compress, round_words, start};
 
 // The sixteen words of the block at `at`.
+#[tactic(auto, using(crate::proofs::Chains::block_none))]
 fn block(p: &[u8], at: usize) -> [u32; 16]
     requires { at + 64 ≤ length p.now }
     ensures { result ≡ fips.block_words p.now at 16 }
 {
     let mut m = [0u32; 16];
-    let mut t = 0;
-    while t < 16 {
+    for t in 0..16 {
         m[t] = octets::be32(p, at + 4 * t);
-        t += 1;
     }
     m
 }
 
 // The sixteen words of block i of the padded message: of the message itself, or of the blocks that end it.
+#[tactic(auto, using(crate::proofs::Padded::length_pad, crate::proofs::Padded::own_block, crate::proofs::Padded::ending_block))]
 fn padded_block(m: &[u8], tail: &[u8], i: usize) -> [u32; 16]
     requires { Ends m.now tail.now × (64 * i < length (fips.pad m.now)) }
     ensures { result ≡ fips.block_words (fips.pad m.now) (64 * i) 16 }
 {
     let whole = m.len() / 64;
     if i < whole {
-        return block(m, 64 * i);
+        block(m, 64 * i)
+    } else {
+        block(tail, 64 * (i - whole))
     }
-    block(tail, 64 * (i - whole))
 }
 
 // The state after the first n blocks of the padded message.
+#[tactic(auto, using(crate::proofs::Chains::chain_none, crate::proofs::Chains::chain_more))]
 pub fn chain(m: &[u8], tail: &[u8], n: usize) -> State
     requires { Ends m.now tail.now × (64 * n ≤ length (fips.pad m.now)) }
     ensures { result ≡ fips.chain (fips.pad m.now) n fips.start }
 {
     let k = round_words();
     let mut s = start();
-    let mut i = 0;
-    while i < n {
+    for i in 0..n {
         let words = padded_block(m, tail, i);
         s = compress(s, &words, &k);
-        i += 1;
     }
     s
 }
 
 // The five words, high byte first.
+#[tactic(auto, using(crate::proofs::Padded::output_law))]
 pub fn output(s: State) -> [u8; 20]
     ensures { result ≡ fips.output s }
 {

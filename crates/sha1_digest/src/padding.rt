@@ -3,6 +3,7 @@ ghost use Rattle.std.specs.Prelude.{◌≤◌, length};
 ghost use Rattle.sha1_digest.specs.Ending.{Ends};
 
 // The blocks that end a message, in the first of 128 bytes.
+#[tactic(auto, using(crate::proofs::Padded::ending_law))]
 pub fn ending(m: &[u8]) -> [u8; 128]
     requires { length m.now ≤ 65536 }
     ensures { Ends m.now result }

@@ -1,15 +1,16 @@
-// A message of one block, its padding known. The spans of `schedule` and `eighty` are called here once more: `compress` is too large
-// for the compiler to put into its caller, and where the spans are called with the block in sight the words that are constant fold.
+// A message of one block, its padding known. The spans of `schedule` and `eighty` are called here once more: where they are called with the
+// block in sight the words that are constant fold.
 ghost use Rattle.std.specs.Prelude.{◌≡◌, [], ◌∷◌};
 ghost use Rattle.sha1_digest.specs.Sha1 as fips;
 
 use sha1_rounds::rounds::{span, sums};
 use sha1_rounds::schedule::{begun, extend};
-use sha1_rounds::{State, start};
+use sha1_rounds::{RoundWords, State, start};
 
 // The hash of six words: they, the one bit, zeros and the length of 192 bits are one block.
-pub fn six(k: &[u32; 4], a: u32, b: u32, c: u32, d: u32, e: u32, f: u32) -> State
-    requires { k.now ≡ fips.round_words }
+// kept: by spans and on six numbers: as one call of `compress` a verdict takes 3 to 23 in 100 longer, and over an array 1 more
+#[tactic(auto, using(sha1_rounds::proofs::Steps::round_word))]
+pub fn six(k: &RoundWords, a: u32, b: u32, c: u32, d: u32, e: u32, f: u32) -> State
     ensures { fips.output result ≡ fips.sha1 (fips.word_bytes (a ∷ b ∷ c ∷ d ∷ e ∷ f ∷ [])) }
 {
     let m = [a, b, c, d, e, f, 0x80000000, 0, 0, 0, 0, 0, 0, 0, 0, 192];
@@ -19,8 +20,8 @@ pub fn six(k: &[u32; 4], a: u32, b: u32, c: u32, d: u32, e: u32, f: u32) -> Stat
     extend(&mut w, 48, 64);
     extend(&mut w, 64, 80);
     let s = start();
-    let first = span(&w, k[0], 0, 20, s);
-    let second = span(&w, k[1], 20, 40, first);
-    let third = span(&w, k[2], 40, 60, second);
-    sums(s, span(&w, k[3], 60, 80, third))
+    let first = span(&w, k.words[0], 0, 20, s);
+    let second = span(&w, k.words[1], 20, 40, first);
+    let third = span(&w, k.words[2], 40, 60, second);
+    sums(s, span(&w, k.words[3], 60, 80, third))
 }

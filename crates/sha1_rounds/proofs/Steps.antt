@@ -39,6 +39,8 @@ module _ (k : List ℕ) (e : k ≡ fips.round_words) (t : ℕ) where
   unfolding fips.constant
   last_word g = rw e (sym (last t _ _ _ _ g))
 
+pub ruleset round_word = (first_word, second_word, third_word, last_word)
+
 pub rounds_none : (w : List ℕ) (s : State) → s ≡ fips.steps w 0 s
 unfolding fips.steps
 rounds_none w s = refl
@@ -55,6 +57,10 @@ Spanned w from to r x = (s : State) → r ≡ fips.steps w from s → x ≡ fips
 pub rounds_all : (w : List ℕ) {s r₁ r₂ r₃ r₄ : State} → Spanned w 0 20 s r₁ → Spanned w 20 40 r₁ r₂ → Spanned w 40 60 r₂ r₃ → Spanned w 60 80 r₃ r₄
     → r₄ ≡ fips.steps w 80 s
 rounds_all w {s = s} f₁ f₂ f₃ f₄ = f₄ s (f₃ s (f₂ s (f₁ s (rounds_none w s))))
+
+pub words_none : (m w : List ℕ) → take 0 w ≡ fips.words m 0
+unfolding fips.words
+words_none m w = refl
 
 -- the schedule's next word, stored where it belongs
 pub words_more : (m w : List ℕ) (t v : ℕ) → t < length w → take t w ≡ fips.words m t → v ≡ fips.schedule_word m t (take t w)

@@ -5,38 +5,32 @@ ghost use Rattle.sha1_rounds.specs.Compression as fips;
 ghost use Rattle.sha1_rounds.specs.declared.State.{State};
 
 use crate::State;
-
-// The words of the four ranges (4.2.1).
-const ROUND: [u32; 4] = [0x5a827999, 0x6ed9eba1, 0x8f1bbcdc, 0xca62c1d6];
-
-// The round words, for a caller to lend. A constant that the compiler sees it adds last, after the rotated word that a round waits
-// for; one that comes from outside it adds first.
-pub fn round_words() -> [u32; 4]
-    ensures { result ≡ fips.round_words }
-{
-    ROUND
-}
+use crate::constants::RoundWords;
 
 // x rotated left by n places (3.2).
+#[tactic(auto, unfolding(crate::specs::Compression::rotl))]
 pub fn rotl(n: u32, x: u32) -> u32
     requires { (0 < n) × (n < 32) }
     ensures { result ≡ fips.rotl n x }
 {
-    (x << n) | (x >> (32 - n))
+    x.rotate_left(n)
 }
 
+#[tactic(auto, unfolding(crate::specs::Compression::ch))]
 fn ch(x: u32, y: u32, z: u32) -> u32
     ensures { result ≡ fips.ch x y z }
 {
     (x & y) ^ (!x & z)
 }
 
+#[tactic(auto, unfolding(crate::specs::Compression::parity))]
 fn parity(x: u32, y: u32, z: u32) -> u32
     ensures { result ≡ fips.parity x y z }
 {
     x ^ y ^ z
 }
 
+#[tactic(auto, unfolding(crate::specs::Compression::maj))]
 fn maj(x: u32, y: u32, z: u32) -> u32
     ensures { result ≡ fips.maj x y z }
 {
@@ -44,6 +38,8 @@ fn maj(x: u32, y: u32, z: u32) -> u32
 }
 
 // The function of round t.
+// kept: a match as 4.1.1 has it, and no closure for each span: where a span is inlined none is left of it
+#[tactic(auto, unfolding(crate::specs::Compression::mix, crate::specs::Compression::ranged))]
 fn mix(t: usize, x: u32, y: u32, z: u32) -> u32
     ensures { result ≡ fips.mix t x y z }
 {
@@ -55,20 +51,14 @@ fn mix(t: usize, x: u32, y: u32, z: u32) -> u32
     }
 }
 
-// The sum modulo 2 ^ 32.
-fn add(x: u32, y: u32) -> u32
-    ensures { result ≡ (x + y) % 2 ^ 32 }
-{
-    std::num::wrapping_add_u32(x, y)
-}
-
 // Round t with the round word k and the schedule's word v.
+#[tactic(auto, unfolding(crate::specs::Compression::step))]
 fn step(t: usize, k: u32, v: u32, s: State) -> State
     requires { k ≡ fips.constant t }
     ensures { result ≡ fips.step t v s }
 {
-    let mixed = add(rotl(5, s.a), mix(t, s.b, s.c, s.d));
-    let a = add(add(add(mixed, s.e), k), v);
+    let mixed = rotl(5, s.a).wrapping_add(mix(t, s.b, s.c, s.d));
+    let a = mixed.wrapping_add(s.e).wrapping_add(k).wrapping_add(v);
     State {
         a,
         b: s.a,
@@ -79,39 +69,39 @@ fn step(t: usize, k: u32, v: u32, s: State) -> State
 }
 
 // The rounds from `from` up to `to`, after those before; k is the word of each of them.
+#[tactic(auto, using(crate::proofs::Steps::rounds_more))]
 pub fn span(w: &[u32; 80], k: u32, from: usize, to: usize, s: State) -> State
     requires { (from ≤ to) × ((to ≤ 80) × ((t : ℕ) → from ≤ t → t < to → k ≡ fips.constant t)) }
     ensures { (x : State) → s ≡ fips.steps w.now from x → result ≡ fips.steps w.now to x }
 {
     let mut r = s;
-    let mut t = from;
-    while t < to {
+    for t in from..to {
         r = step(t, k, w[t], r);
-        t += 1;
     }
     r
 }
 
 // All the rounds.
-pub fn eighty(w: &[u32; 80], k: &[u32; 4], s: State) -> State
-    requires { k.now ≡ fips.round_words }
+#[tactic(auto, using(crate::proofs::Steps::round_word))]
+pub fn eighty(w: &[u32; 80], k: &RoundWords, s: State) -> State
     ensures { result ≡ fips.steps w.now 80 s }
 {
-    let first = span(w, k[0], 0, 20, s);
-    let second = span(w, k[1], 20, 40, first);
-    let third = span(w, k[2], 40, 60, second);
-    span(w, k[3], 60, 80, third)
+    let first = span(w, k.words[0], 0, 20, s);
+    let second = span(w, k.words[1], 20, 40, first);
+    let third = span(w, k.words[2], 40, 60, second);
+    span(w, k.words[3], 60, 80, third)
 }
 
 // Two states word by word.
+#[tactic(auto, unfolding(crate::specs::Compression::sums))]
 pub fn sums(s: State, r: State) -> State
     ensures { result ≡ fips.sums s r }
 {
     State {
-        a: add(s.a, r.a),
-        b: add(s.b, r.b),
-        c: add(s.c, r.c),
-        d: add(s.d, r.d),
-        e: add(s.e, r.e),
+        a: s.a.wrapping_add(r.a),
+        b: s.b.wrapping_add(r.b),
+        c: s.c.wrapping_add(r.c),
+        d: s.d.wrapping_add(r.d),
+        e: s.e.wrapping_add(r.e),
     }
 }

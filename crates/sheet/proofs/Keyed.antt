@@ -1,15 +1,16 @@
 -- A verdict of 0 comes with the key: the step under it undoes itself, so sealing and opening are each other's inverse. Assumes nothing.
-use mathlib.Core.Path.{◌≡◌, sym, ap, subst⁻¹, ◌∙◌}
+use mathlib.Core.Path.{◌≡◌, sym, ap, ◌∙◌}
 use mathlib.Core.Logic.{◌⊎◌, inl, inr}
 use mathlib.Core.Bool.{Bool, true, false}
 use mathlib.Core.List.{List}
-use Prim.Native.Nat.{ℕ, ◌≤◌, ◌<◌, ◌%◌, ◌*◌, ◌/◌}
+use Prim.Native.Nat.{ℕ, ◌%◌, ◌*◌, ◌/◌}
 use borrow.Author.Tests.{eq-eqb}
 use lib.Dec.{lit<}
 use lib.ListN.{length}
+use Rattle.std.specs.Prelude.{Ok}
 use Rattle.octets.specs.Octets.{Bytes}
+use Rattle.aes.specs.Aes as Aes
 use Rattle.aes.specs.Aes.{key_length, expanded}
-use Rattle.aes.specs.declared.Expanded.{Expanded}
 use Rattle.steps.specs.Steps.{Starts, Sized, Reverses, whole}
 use Rattle.steps.specs.Chained.{begins}
 use Rattle.steps.proofs.Made.{length_open_all, length_seal_all}
@@ -17,12 +18,10 @@ use Rattle.steps.proofs.Inverse.{step_reversible}
 use Rattle.blocks.specs.Blocks.{step_from, stream_start}
 use Rattle.blocks.specs.declared.Mode.{Mode}
 use Rattle.blocks.specs.declared.Place.{Place}
-use Rattle.blocks.proofs.Aes.{expanded_rounds}
-use Rattle.descriptor.specs.declared.Descriptor.{Descriptor}
 use Rattle.descriptor.proofs.Laws as descriptor
 use Rattle.password.specs.Lock.{Lock, descriptor_of}
-use Rattle.password.specs.Verdict.{judged, unlocked}
-use Rattle.password.specs.declared.Unlocked.{Unlocked}
+use Rattle.password.specs.Verdict.{Unlocked, judged, unlocked, unlocked_of}
+use Rattle.password.specs.declared.Unlocked as Given
 use Rattle.password.proofs.Laws as password
 use Rattle.lengths.specs.Lengths.{package_limit}
 use Rattle.lengths.proofs.Fillings.{allowed_whole}
@@ -96,22 +95,22 @@ module _ (lock : Lock) where
 
   -- ---- the key as `unlock` gives it
 
-  module _ (v : judged lock ≡ 0) (u : Unlocked) (e : u ≡ unlocked lock) where
+  module _ (u : Given.Unlocked) (e : unlocked_of (Ok u) ≡ unlocked lock) where
+    accepted : judged lock ≡ 0
+    accepted = password.unlocked_zero lock u e
+
     key_fits : key_length (length (sheet_key lock)) ≡ true
     unfolding sheet_key
-    key_fits = password.key_fits (descriptor_of lock) lock.password (descriptor.well_formed lock.info lock.scheme (password.admitted lock v))
+    key_fits = password.key_fits (descriptor_of lock) lock.password (descriptor.well_formed lock.info lock.scheme (password.admitted lock accepted))
 
-    is : u.key ≡ expanded (sheet_key lock)
+    is : Aes.expanded_of u.key ≡ expanded (sheet_key lock)
     unfolding sheet_key
-    is = ap (λ (x : Unlocked). x.key) e ∙ password.unlocked_key lock v
-
-    pub rounds_known : (0 < u.key.rounds) × (u.key.rounds ≤ 14)
-    rounds_known = subst⁻¹ (λ (x : Expanded). (0 < x.rounds) × (x.rounds ≤ 14)) is (expanded_rounds (sheet_key lock) key_fits)
+    is = ap (λ (r : Unlocked). r.key) e ∙ password.unlocked_key lock accepted
 
     -- taken up at its start, a stream's step is the one of the scheme and the key, for every size
     pub step_under : (m : Mode) (p : Place) (size : ℕ) → m ≡ mode_of u.fields size → p ≡ stream_start
         → step_from p m u.key.bytes u.key.rounds ≡ sheet_step lock size
     unfolding sheet_step
     step_under m p size h s =
-        let d : u.fields ≡ descriptor_of lock = ap (λ (x : Unlocked). x.fields) e ∙ password.unlocked_fields lock v in
-        mode_started (descriptor_of lock) (sheet_key lock) size key_fits u.key m p is (h ∙ ap (λ (x : Descriptor). mode_of x size) d) s
+        let d : u.fields ≡ descriptor_of lock = ap (λ (r : Unlocked). r.fields) e ∙ password.unlocked_fields lock accepted in
+        rw (h, d) (mode_started (descriptor_of lock) (sheet_key lock) size key_fits u.key p is s)

@@ -8,17 +8,21 @@ use native.Mathlib.Omega.{arith}
 use lib.Dec.{T}
 use lib.ListN.{length, take, drop, replicate, length-append}
 use lib.Seq.{length-take-le}
+use Rattle.std.specs.Prelude.{Err}
 use Rattle.octets.specs.Octets.{Bytes}
 use Rattle.octets.proofs.Below.{take_below}
 use Rattle.octets.proofs.Numbers.{length_le_bytes}
 use Rattle.answers.specs.Rules.{first_of, after, room_rules, numbered, numbers, OneOf}
 use Rattle.answers.specs.Ended.{left, reply}
+use Rattle.answers.specs.Refusals.{number, reply_of}
+use Rattle.answers.specs.declared.Refusal.{Refusal}
+use Rattle.answers.proofs.Refusals.{stops, refused}
 use Rattle.answers.proofs.Laws.{in_turn, after_none, both_zero, front_decides, numbers_both, by_numbers, room_numbers}
 use Rattle.answers.proofs.Endings.{ended_answer, ended_refused, ended_done}
 use Rattle.steps.specs.Steps.{open_all}
 use Rattle.password.specs.Lock.{Lock}
-use Rattle.password.specs.Verdict.{judged, verdict_rules}
-use Rattle.password.proofs.Laws.{verdict_numbered, verdict_list, verdict_numbers_lem}
+use Rattle.password.specs.Verdict.{judged, verdict_rules, unlocked, unlocked_of}
+use Rattle.password.proofs.Laws.{refused_number, verdict_numbered, verdict_list, verdict_numbers_lem}
 use Rattle.lengths.specs.Lengths.{stream_size, length_rules, package_limit, filling_for, rounded, allowed, sealed_size}
 use Rattle.lengths.proofs.Rules.{length_numbers}
 use Rattle.lengths.proofs.Fillings.{filling_most, rounded_whole, filling_allowed, allowed_rounded}
@@ -63,6 +67,16 @@ module _ (lock : Lock) where
         → opened lock s out ≡ left (reply 0 (stream_size s)) (package_of lock s ++ replicate (length out - stream_size s) 0)
     unfolding opened
     open_done v h = ended_done (first_of (open_rules lock s (length out))) (stream_size s) (package_of lock s) out (open_after v ∙ h)
+
+    -- refused by the verdict, and after it by the stream
+    module _ (r : Refusal) where
+      pub open_locked : unlocked_of (Err r) ≡ unlocked lock → left (reply_of (Err r)) out ≡ opened lock s out
+      unfolding opened
+      open_locked e = refused r _ (stops r _ (refused_number lock r e) _ ∙ sym open_in_turn) _ _ out
+
+      pub open_unfit : judged lock ≡ 0 → number r ≡ first_of (stream_rules s (length out)) → left (reply_of (Err r)) out ≡ opened lock s out
+      unfolding opened
+      open_unfit v e = refused r _ (e ∙ sym (open_after v)) _ _ out
 
     -- no rule is broken: the verdict is 0, and the stream fits
     pub open_holds : first_of (open_rules lock s (length out)) ≡ 0 → (judged lock ≡ 0) × Openable s (length out)
@@ -125,6 +139,17 @@ module _ (lock : Lock) where
     unfolding sealed
     seal_done v h =
         ended_done (first_of (seal_rules lock extra (length «package») (length out))) (sealed_size extra (length «package»)) stream out (seal_after v ∙ h)
+
+    -- refused by the verdict, and after it by the package
+    module _ (r : Refusal) where
+      pub seal_locked : unlocked_of (Err r) ≡ unlocked lock → left (reply_of (Err r)) out ≡ sealed lock «package» filling extra out
+      unfolding sealed
+      seal_locked e = refused r _ (stops r _ (refused_number lock r e) _ ∙ sym seal_in_turn) _ _ out
+
+      pub seal_unfit : judged lock ≡ 0 → number r ≡ first_of (package_rules extra (length «package») (length out))
+          → left (reply_of (Err r)) out ≡ sealed lock «package» filling extra out
+      unfolding sealed
+      seal_unfit v e = refused r _ (e ∙ sym (seal_after v)) _ _ out
 
     -- no rule is broken: the verdict is 0, and the package fits
     pub seal_holds : first_of (seal_rules lock extra (length «package») (length out)) ≡ 0 → (judged lock ≡ 0) × Sealable extra (length «package») (length out)

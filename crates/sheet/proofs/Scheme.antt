@@ -1,21 +1,21 @@
 -- What every scheme gives, by its lines: both ways give a unit, and undo each other under a key of bytes; which blocks are opened without
 -- a look at the one before; and the code's mode is the scheme's step. Assumes nothing.
-use mathlib.Core.Path.{◌≡◌, refl, ap, ◌∙◌}
+use mathlib.Core.Path.{◌≡◌, refl}
 use mathlib.Core.Bool.{Bool, true, false, cond}
 use mathlib.Core.List.{List}
 use mathlib.Core.Logic.{◌⊎◌, inl, inr}
-use Prim.Native.Nat.{ℕ}
+use Prim.Native.Nat.{ℕ, ◌≤◌}
+use native.Mathlib.Omega.{arith}
 use borrow.Author.Tests.{eqb-true, eqb-false, eq-eqb}
 use lib.Dec.{eqb}
 use lib.ListN.{length}
 use Rattle.octets.specs.Octets.{Bytes}
 use Rattle.answers.proofs.Laws.{either}
-use Rattle.aes.specs.Aes.{key_length, expanded}
-use Rattle.aes.specs.declared.Expanded.{Expanded}
+use Rattle.aes.specs.Aes.{key_length, expanded, expanded_of}
+use Rattle.aes.specs.declared.round_keys.RoundKeys.{RoundKeys}
 use Rattle.steps.specs.Steps.{Step, Starts, Sized, Reverses}
 use Rattle.steps.specs.Chained.{begins}
-use Rattle.blocks.specs.Blocks.{ecb_under, chained_under, step_from, stream_start}
-use Rattle.blocks.specs.declared.Mode.{Mode}
+use Rattle.blocks.specs.Blocks.{ecb_under, chained_under, step_from, size_of, stream_start}
 use Rattle.blocks.specs.declared.Place.{Place}
 use Rattle.blocks.proofs.Aes.{under_width, under_starts, under_sized, under_reverses, chained_width, chained_under_starts, chained_under_tells, chained_under_sized, chained_under_reverses, ecb_started, chained_started}
 use Rattle.descriptor.specs.declared.Descriptor.{Descriptor}
@@ -62,12 +62,20 @@ module _ (d : Descriptor) (key : List ℕ) (size : ℕ) where
 
   -- ---- as the code takes it
 
-  pub mode_started : key_length (length key) ≡ true → (e : Expanded) (m : Mode) (p : Place) → e ≡ expanded key → m ≡ mode_of d size → p ≡ stream_start
-      → step_from p m e.bytes e.rounds ≡ step_of d key size
+  pub mode_started : key_length (length key) ≡ true → (e : RoundKeys) (p : Place) → expanded_of e ≡ expanded key → p ≡ stream_start
+      → step_from p (mode_of d size) e.bytes e.rounds ≡ step_of d key size
   unfolding step_of mode_of
-  mode_started t e m p q h s =
-      let c = ap (λ (x : Mode). x.chained) h in
+  mode_started t e p q s =
       elim (either (eqb d.scheme 2)) [
-        | inl b ↦ rw b (chained_started key t m e p (c ∙ b) q s ∙ ap (λ (x : Mode). chained_under key x.salt x.size) h)
-        | inr b ↦ rw b (ecb_started key t m e p (c ∙ b) q s)
+        | inl b ↦ rw b (chained_started key t e p q s d.salt size)
+        | inr b ↦ rw b (ecb_started key t e p q s)
       ]
+
+-- a mode chains no more bytes than the package has
+pub mode_size : (d : Descriptor) (size : ℕ) → size_of (mode_of d size) ≤ size
+unfolding mode_of
+mode_size d size =
+    elim (either (eqb d.scheme 2)) [
+      | inl b ↦ rw b (omega arith)
+      | inr b ↦ rw b (omega arith)
+    ]

@@ -7,13 +7,12 @@ use native.Mathlib.Nat.{zero-add}
 use native.Mathlib.Omega.{arith}
 use lib.ListN.{length, take, drop, replicate, length-drop}
 use lib.Seq.{paste, length-paste, take_all, take-append-add}
-use Rattle.octets.specs.Octets.{le_bytes}
+use Rattle.octets.specs.Octets.{le_bytes, zero_from}
 use Rattle.octets.proofs.Numbers.{length_le_bytes}
 use Rattle.octets.proofs.Parts.{part_paste}
 use Rattle.answers.specs.Rules.{first_of}
-use Rattle.answers.specs.Ended.{left, ended}
-use Rattle.answers.specs.declared.Reply.{Reply}
-use Rattle.answers.proofs.Endings.{ended_reply, ended_out, laid}
+use Rattle.answers.specs.Ended.{left, reply}
+use Rattle.answers.proofs.Endings.{laid}
 use Rattle.steps.specs.Steps.{Step, open_all, seal_all}
 use Rattle.password.specs.Lock.{Lock}
 use Rattle.lengths.specs.Lengths.{stream_size, filling_for, rounded, sealed_size}
@@ -30,29 +29,29 @@ rounded_plain «package» filling extra = take-append-add «package» filling (f
 
 module _ (lock : Lock) (step : Step) where
   -- opening: the package
-  pub open_written : (s out mid end : List ℕ) (n : ℕ) (r : Reply) → first_of (open_rules lock s (length out)) ≡ 0 → n ≡ stream_size s
+  pub open_written : (s out mid end : List ℕ) (n : ℕ) → first_of (open_rules lock s (length out)) ≡ 0 → n ≡ stream_size s
       → step ≡ sheet_step lock (stream_size s) → mid ≡ paste out 0 (open_all step (take (length s - 8) (drop 8 s))) n
-      → left r end ≡ ended 0 n (take n mid) mid → left r end ≡ opened lock s out
+      → end ≡ zero_from n mid → left (reply 0 n) end ≡ opened lock s out
   unfolding package_of pair_of opening
-  open_written s out mid end n r k z e pm d =
+  open_written s out mid end n k z e pm d =
       let o = open_holds lock s out k in
       let x : List ℕ = open_all (sheet_step lock (stream_size s)) (drop 8 s) in
       let all : take (length s - 8) (drop 8 s) ≡ drop 8 s = take_all (length s - 8) (drop 8 s) (simp length-drop (omega arith)) in
       let held : stream_size s ≤ length x = package_held lock s (length out) o.1 in
       let w : end ≡ take n x ++ replicate (length out - n) 0 =
       laid out x mid end 0 n n (zero-add n) (omega (arith, o.1.roomy)) (omega (arith, held))
-      (pm ∙ ap (λ (y : List ℕ). paste out 0 y n) (ap₂ open_all e all)) (ended_out _ _ _ _ d) in
-      rw (ended_reply _ _ _ _ d, w, z) (sym (open_done lock s out o.0 ((openable s (length out)).1 o.1)))
+      (pm ∙ ap (λ (y : List ℕ). paste out 0 y n) (ap₂ open_all e all)) d in
+      rw (w, z) (sym (open_done lock s out o.0 ((openable s (length out)).1 o.1)))
 
   -- sealing: eight bytes of size, and the ciphertext
-  pub seal_written : («package» filling : List ℕ) (extra : Bool) (out first mid end : List ℕ) (n : ℕ) (r : Reply)
+  pub seal_written : («package» filling : List ℕ) (extra : Bool) (out first mid end : List ℕ) (n : ℕ)
       → first_of (seal_rules lock extra (length «package») (length out)) ≡ 0 → length filling ≡ 16
       → n ≡ rounded extra (length «package») → step ≡ sheet_step lock (length «package»)
       → first ≡ paste out 0 (le_bytes 8 (length «package»)) 8
-      → mid ≡ paste first 8 (seal_all step (take n («package» ++ filling))) n → left r end ≡ ended 0 (8 + n) (take (8 + n) mid) mid
-      → left r end ≡ sealed lock «package» filling extra out
+      → mid ≡ paste first 8 (seal_all step (take n («package» ++ filling))) n → end ≡ zero_from (8 + n) mid
+      → left (reply 0 (8 + n)) end ≡ sealed lock «package» filling extra out
   unfolding sealed_size sealing_of stream_of filled_with sealing
-  seal_written «package» filling extra out first mid end n r k g z e pf pm d =
+  seal_written «package» filling extra out first mid end n k g z e pf pm d =
       let o = seal_holds lock «package» filling extra out k in
       let q : Pair = filled_with «package» filling extra in
       let y : List ℕ = seal_all (sheet_step lock (length «package»)) (q.«package» ++ q.filling) in
@@ -64,6 +63,6 @@ module _ (lock : Lock) (step : Step) where
       let it : seal_all step (take n («package» ++ filling)) ≡ y =
       ap₂ seal_all e (ap (λ (m : ℕ). take m («package» ++ filling)) z ∙ rounded_plain «package» filling extra) in
       let w : end ≡ le_bytes 8 (length «package») ++ y ++ replicate (length out - (8 + n)) 0 =
-      laid first y mid end 8 n (8 + n) refl (omega arith) (omega arith) (pm ∙ ap (λ (l : List ℕ). paste first 8 l n) it) (ended_out _ _ _ _ d)
+      laid first y mid end 8 n (8 + n) refl (omega arith) (omega arith) (pm ∙ ap (λ (l : List ℕ). paste first 8 l n) it) d
       ∙ rw (head, take_all n y (omega arith), kept) in
-      rw (ended_reply _ _ _ _ d, w, z) (sym (seal_done lock «package» filling extra out o.0 ((sealable extra (length «package») (length out)).1 o.1)))
+      rw (w, z) (sym (seal_done lock «package» filling extra out o.0 ((sealable extra (length «package») (length out)).1 o.1)))

@@ -4,6 +4,7 @@ use Rattle.std.specs.Prelude.{cond, List, ℕ, eqb}
 use Rattle.steps.specs.Steps.{Step}
 use Rattle.blocks.specs.Blocks.{ecb_under, chained_under}
 use Rattle.blocks.specs.declared.Mode.{Mode}
+use Rattle.blocks.specs.declared.Mode.TheVariants.{Ecb, Chained}
 use Rattle.descriptor.specs.declared.Descriptor.{Descriptor}
 
 -- the step of a package of that size, under a descriptor and the key
@@ -14,4 +15,4 @@ step_of d key size =
 
 -- the same as the code takes it
 unfoldable pub mode_of : Descriptor → (size : ℕ) → Mode
-mode_of d size = record { chained = eqb d.scheme 2; salt = d.salt; size = size }
+mode_of d size = cond (eqb d.scheme 2) (Chained d.salt size) Ecb

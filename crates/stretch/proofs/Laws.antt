@@ -10,15 +10,19 @@ use borrow.Author.Tests.{eqb-true, eqb-false, ltb-false, lt-ltb, le-ltb}
 use lib.Dec.{T, ltb, eqb}
 use lib.ListN.{length, take, drop, replicate}
 use lib.Seq.{slice, length-slice, take-take}
+use Rattle.std.specs.Prelude.{Err}
 use Rattle.octets.proofs.Parts.{drop_take}
 use Rattle.answers.specs.Rules.{first_of, after, room_rules, numbered, numbers, OneOf}
 use Rattle.answers.specs.Ended.{left, reply}
+use Rattle.answers.specs.Refusals.{number, reply_of}
+use Rattle.answers.specs.declared.Refusal.{Refusal}
+use Rattle.answers.proofs.Refusals.{stops, refused}
 use Rattle.answers.proofs.Laws.{either, neither, none_broken, in_turn, then, after_none, after_some, both_zero, front_decides, numbers_both, by_numbers, room_numbers, room_broken, roomy}
 use Rattle.answers.proofs.Endings.{ended_answer, ended_refused, ended_done}
 use Rattle.steps.specs.Steps.{open_all}
 use Rattle.password.specs.Lock.{Lock}
-use Rattle.password.specs.Verdict.{judged, verdict_rules}
-use Rattle.password.proofs.Laws.{verdict_numbered, verdict_list, verdict_numbers_lem}
+use Rattle.password.specs.Verdict.{judged, verdict_rules, unlocked, unlocked_of}
+use Rattle.password.proofs.Laws.{refused_number, unlocked_answer, verdict_numbered, verdict_list, verdict_numbers_lem}
 use Rattle.lengths.specs.Lengths.{stream_size, length_rules}
 use Rattle.lengths.proofs.Rules.{Fitting, fitting, lengths_numbered, length_numbers}
 use Rattle.sheet.specs.Sheet.{sheet_step, open_rules, package_of, opened}
@@ -132,12 +136,25 @@ module _ (lock : Lock) (s : List ℕ) (from to : ℕ) (out : List ℕ) where
   unfolding stretch_rules judged
   stretch_in_turn = in_turn (verdict_rules lock) (part_rules s from to (length out)) (verdict_numbered lock)
 
+  pub stretch_after : judged lock ≡ 0 → answer ≡ first_of (part_rules s from to (length out))
+  stretch_after v = stretch_in_turn ∙ after_none (judged lock) _ v
+
   pub stretch_done : judged lock ≡ 0 → Reachable s from to (length out)
       → stretched lock s from to out ≡ left (reply 0 (to - from)) (slice from to (package_of lock s) ++ replicate (length out - (to - from)) 0)
   unfolding stretched
   stretch_done v k =
       ended_done answer (to - from) (slice from to (package_of lock s)) out
-      (stretch_in_turn ∙ after_none (judged lock) _ v ∙ (reachable s from to (length out)).1 k)
+      (stretch_after v ∙ (reachable s from to (length out)).1 k)
+
+  -- refused by the verdict, and after it by the stream
+  module _ (r : Refusal) where
+    pub stretch_locked : unlocked_of (Err r) ≡ unlocked lock → left (reply_of (Err r)) out ≡ stretched lock s from to out
+    unfolding stretched
+    stretch_locked e = refused r _ (stops r _ (refused_number lock r e) _ ∙ sym stretch_in_turn) _ _ out
+
+    pub stretch_unfit : (unlocked lock).answer ≡ 0 → number r ≡ first_of (part_rules s from to (length out)) → left (reply_of (Err r)) out ≡ stretched lock s from to out
+    unfolding stretched
+    stretch_unfit v e = refused r _ (e ∙ sym (stretch_after (sym (unlocked_answer lock) ∙ v))) _ _ out
 
   -- for the numbers up to 15 neither the ends nor the room count
   pub stretch_front : (n : ℕ) → (n ≡ 0 → ⊥) → (OneOf (20 ∷ 16 ∷ []) n → ⊥)
@@ -180,7 +197,7 @@ module _ (lock : Lock) (s : List ℕ) (from to : ℕ) (out : List ℕ) (v : judg
 
   after_lengths : answered ≡ after (first_of (range_rules from to (stream_size s))) (first_of (room_rules (length out) (to - from)))
   after_lengths =
-      stretch_in_turn lock s from to out ∙ after_none (judged lock) _ v ∙ part_in_turn s from to (length out)
+      stretch_after lock s from to out v ∙ part_in_turn s from to (length out)
       ∙ after_none (first_of (length_rules (length s) (stream_size s))) _ ((fitting (length s) (stream_size s)).1 f)
 
   pub by_range : (to < from) ⊎ (stream_size s < to) → answered ≡ 20

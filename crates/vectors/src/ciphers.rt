@@ -1,65 +1,44 @@
 // AES, a row to a vector: the keys and blocks of FIPS 197 with what it gives for them, and keys of other lengths, which are refused. A
 // line ends with what was expected where something else came out.
+use aes::Expanded;
+use answers::Refusal;
 use samples::front;
 use std::io;
 
-// A key's length, and what comes after it.
-fn key(rt: &impl Print, n: usize, what: &[u8]) -> io::Result<()> {
-    lines::text(rt, b"aes key ")?;
-    lines::number(rt, n as u64)?;
-    lines::text(rt, what)
-}
-
 // The bytes that came out, and those that should have, where they are others.
-fn ended(rt: &impl Print, got: &[u8], expected: &[u8]) -> io::Result<()> {
-    lines::hex(rt, got)?;
-    if !check::same(got, expected) {
-        lines::text(rt, b", and not ")?;
-        lines::hex(rt, expected)?;
+fn ended(rt: &impl Print, got: [u8; 16], expected: [u8; 16]) -> io::Result<()> {
+    lines::hex(rt, &got)?;
+    if got != expected {
+        print!(rt; ", and not ")?;
+        lines::hex(rt, &expected)?;
     }
-    lines::text(rt, b"\n")
+    println!(rt)
 }
 
-// Round key n of an expanded key, or all of it where there is no such round.
-fn round_key(w: &[u8], n: usize) -> &[u8] {
-    if n <= 14 && 16 * n + 16 <= w.len() {
-        &w[16 * n..16 * n + 16]
-    } else {
-        w
-    }
+// The number of rounds, of which FIPS 197 has at most 14, and the last round key of an expanded key.
+fn expansion(rt: &impl Print, k: &[u8], last: [u8; 16]) -> io::Result<()> {
+    let Expanded { bytes, rounds } = aes::expand(k);
+    print!(rt; "aes key {}: rounds {rounds} last round key ", k.len())?;
+    ended(rt, octets::part(&bytes, 16 * rounds.min(14)), last)
 }
 
-// The number of rounds and the last round key of an expanded key.
-fn expansion(rt: &impl Print, k: &[u8], last: &[u8; 16]) -> io::Result<()> {
-    let e = aes::expand(k);
-    let bytes = e.bytes;
-    key(rt, k.len(), b": rounds ")?;
-    lines::number(rt, e.rounds as u64)?;
-    lines::text(rt, b" last round key ")?;
-    ended(rt, round_key(&bytes, e.rounds), last)
+// What became of a block under a key: a refused one shows zeros.
+fn replied(
+    rt: &impl Print,
+    k: &[u8],
+    way: &str,
+    given: Result<[u8; 16], Refusal>,
+    expected: [u8; 16],
+) -> io::Result<()> {
+    let n = k.len();
+    print!(rt; "aes key {n}: {way} answer {} ", answers::number(given))?;
+    ended(rt, given.unwrap_or([0; 16]), expected)
 }
 
-// An answer with its block.
-fn reply(rt: &impl Print, r: aes::Reply, expected: &[u8; 16]) -> io::Result<()> {
-    lines::number(rt, r.answer as u64)?;
-    lines::text(rt, b" ")?;
-    let block = r.block;
-    ended(rt, &block, expected)
-}
-
-fn encrypted(rt: &impl Print, k: &[u8], block: [u8; 16], expected: &[u8; 16]) -> io::Result<()> {
-    key(rt, k.len(), b": encrypt answer ")?;
-    reply(rt, aes::encrypt(k, block), expected)
-}
-
-fn decrypted(rt: &impl Print, k: &[u8], block: [u8; 16], expected: &[u8; 16]) -> io::Result<()> {
-    key(rt, k.len(), b": decrypt answer ")?;
-    reply(rt, aes::decrypt(k, block), expected)
-}
-
+// A block encrypted and another decrypted, and what each has to be.
 fn both_ways(rt: &impl Print, k: &[u8], plain: [u8; 16], sealed: [u8; 16]) -> io::Result<()> {
-    encrypted(rt, k, plain, &sealed)?;
-    decrypted(rt, k, sealed, &plain)
+    replied(rt, k, "encrypt", aes::encrypt(k, plain), sealed)?;
+    replied(rt, k, "decrypt", aes::decrypt(k, sealed), plain)
 }
 
 // Appendix A: a key and the last round key of its expansion.
@@ -68,19 +47,19 @@ fn expansions(rt: &impl Print) -> io::Result<()> {
     expansion(
         rt,
         b"\x2b\x7e\x15\x16\x28\xae\xd2\xa6\xab\xf7\x15\x88\x09\xcf\x4f\x3c",
-        b"\xd0\x14\xf9\xa8\xc9\xee\x25\x89\xe1\x3f\x0c\xc8\xb6\x63\x0c\xa6",
+        *b"\xd0\x14\xf9\xa8\xc9\xee\x25\x89\xe1\x3f\x0c\xc8\xb6\x63\x0c\xa6",
     )?;
     // A.2
     expansion(
         rt,
         b"\x8e\x73\xb0\xf7\xda\x0e\x64\x52\xc8\x10\xf3\x2b\x80\x90\x79\xe5\x62\xf8\xea\xd2\x52\x2c\x6b\x7b",
-        b"\xe9\x8b\xa0\x6f\x44\x8c\x77\x3c\x8e\xcc\x72\x04\x01\x00\x22\x02",
+        *b"\xe9\x8b\xa0\x6f\x44\x8c\x77\x3c\x8e\xcc\x72\x04\x01\x00\x22\x02",
     )?;
     // A.3
     expansion(
         rt,
         b"\x60\x3d\xeb\x10\x15\xca\x71\xbe\x2b\x73\xae\xf0\x85\x7d\x77\x81\x1f\x35\x2c\x07\x3b\x61\x08\xd7\x2d\x98\x10\xa3\x09\x14\xdf\xf4",
-        b"\xfe\x48\x90\xd1\xe6\x18\x8d\x0b\x04\x6d\xf3\x44\x70\x6c\x63\x1e",
+        *b"\xfe\x48\x90\xd1\xe6\x18\x8d\x0b\x04\x6d\xf3\x44\x70\x6c\x63\x1e",
     )
 }
 
@@ -116,21 +95,20 @@ fn blocks(rt: &impl Print) -> io::Result<()> {
     )
 }
 
-// No key of AES has so many bytes: zeros, with reply 8 of 01.
+// No key of AES has so many bytes: refusal 8 of 01, which shows zeros.
 fn refused(rt: &impl Print, n: usize) -> io::Result<()> {
     let keys = counted();
     let k = front(&keys, n);
-    encrypted(rt, k, samples::stepping(), &[0; 16])?;
-    decrypted(rt, k, samples::stepping(), &[0; 16])
+    let block = samples::stepping();
+    replied(rt, k, "encrypt", aes::encrypt(k, block), [0; 16])?;
+    replied(rt, k, "decrypt", aes::decrypt(k, block), [0; 16])
 }
 
 pub fn all(rt: &impl Print) -> io::Result<()> {
     expansions(rt)?;
     blocks(rt)?;
-    refused(rt, 0)?;
-    refused(rt, 15)?;
-    refused(rt, 17)?;
-    refused(rt, 23)?;
-    refused(rt, 31)?;
-    refused(rt, 33)
+    for n in [0, 15, 17, 23, 31, 33] {
+        refused(rt, n)?;
+    }
+    Ok(())
 }

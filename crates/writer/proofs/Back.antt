@@ -9,10 +9,9 @@ use lib.Dec.{lit<}
 use lib.ListN.{length, take, drop}
 use Rattle.octets.specs.Octets.{Bytes}
 use Rattle.octets.proofs.Below.{nil_bytes}
-use Rattle.descriptor.specs.Info.{key_size, alg_id_of, described}
+use Rattle.descriptor.specs.Info.{Suite, key_size, alg_id_of, described}
 use Rattle.descriptor.specs.LaidOut.{Fields}
 use Rattle.descriptor.specs.declared.Descriptor.{Descriptor}
-use Rattle.descriptor.specs.declared.Suite.{Suite}
 use Rattle.descriptor.proofs.Algorithms.{key_row}
 use Rattle.descriptor.proofs.Laws.{Admitted, KnownScheme}
 use Rattle.descriptor.proofs.LaidOut.{Held, Measured, Good, reads, laid_bytes, laid_admitted, laid_described, laid_name, length_laid}

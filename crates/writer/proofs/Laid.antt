@@ -11,17 +11,16 @@ use Rattle.octets.proofs.Numbers.{length_le_bytes}
 use Rattle.octets.proofs.Filled.{none, more, more_le, whole, zeroed}
 use Rattle.octets.proofs.Each.{length_each}
 use Rattle.answers.specs.Rules.{first_of}
-use Rattle.answers.specs.Ended.{left, ended}
-use Rattle.answers.specs.declared.Reply.{Reply}
-use Rattle.answers.proofs.Endings.{ended_reply, ended_out}
+use Rattle.answers.specs.Ended.{left, reply}
 use Rattle.sha1_digest.specs.Sha1.{sha1}
 use Rattle.sha1_digest.proofs.Laws.{length_sha1}
+use Rattle.aes.specs.Aes as Aes
 use Rattle.aes.specs.Aes.{key_length, expanded}
-use Rattle.aes.specs.declared.Expanded.{Expanded}
+use Rattle.aes.specs.declared.round_keys.RoundKeys.{RoundKeys}
 use Rattle.steps.specs.Steps.{seal_all}
 use Rattle.steps.proofs.Made.{length_seal_all}
-use Rattle.blocks.specs.Blocks.{ecb_under, step_from, ecb_mode, stream_start}
-use Rattle.blocks.specs.declared.Mode.{Mode}
+use Rattle.blocks.specs.Blocks.{ecb_under, step_from, stream_start}
+use Rattle.blocks.specs.declared.Mode.TheVariants.{Ecb}
 use Rattle.blocks.specs.declared.Place.{Place}
 use Rattle.blocks.proofs.Aes.{under_width, under_sized, ecb_started, laid_under}
 use Rattle.descriptor.specs.Info.{alg_id_of}
@@ -53,13 +52,13 @@ plain_laid digest v filling b₁ b₂ b₃ d lv lf e₁ e₂ e₃ =
     whole (more 36 12 0 filling b₃ hash lf e₃) ∙ append_assoc v (sha1 v) filling
 
 -- 48 bytes encrypted into as many
-pub sealed_laid : (key : Expanded) (m : Mode) (p : Place) (k s rest x : List ℕ) → key_length (length k) ≡ true → key ≡ expanded k → m ≡ ecb_mode
-    → p ≡ stream_start → length s ≡ 48 → x ≡ paste (replicate 48 0) 0 (seal_all (step_from p m key.bytes key.rounds) (take 48 (s ++ rest))) 48
+pub sealed_laid : (key : RoundKeys) (p : Place) (k s rest x : List ℕ) → key_length (length k) ≡ true → Aes.expanded_of key ≡ expanded k
+    → p ≡ stream_start → length s ≡ 48 → x ≡ paste (replicate 48 0) 0 (seal_all (step_from p Ecb key.bytes key.rounds) (take 48 (s ++ rest))) 48
     → x ≡ verifier_sealing k s
 unfolding verifier_sealing
-sealed_laid key m p k s rest x t q g h l e =
-    laid_under seal_all (step_from p m key.bytes key.rounds) (ecb_under k) 48 (replicate 48 0) s x
-    (ecb_started k t m key p (ap (λ (n : Mode). n.chained) g) q h) refl (length_seal_all (ecb_under k) (under_sized k) s ∙ rw (under_width k, l))
+sealed_laid key p k s rest x t q h l e =
+    laid_under seal_all (step_from p Ecb key.bytes key.rounds) (ecb_under k) 48 (replicate 48 0) s x
+    (ecb_started k t key p q h) refl (length_seal_all (ecb_under k) (under_sized k) s ∙ rw (under_width k, l))
     (rw (take_at s rest 48 l) at e)
 
 -- a part of the fields
@@ -83,17 +82,17 @@ module _ (bits : ℕ) (password name salt v filling out : List ℕ) (z : first_o
   abbrev fields : LaidOut.Fields
   fields = Written.new_fields bits (new_key bits salt password) name salt v filling
 
-  pub written_laid : (front locked o₁ o₂ o₃ end : List ℕ) (r : Reply) → front ≡ LaidOut.front fields → length front ≡ 44
+  pub written_laid : (front locked o₁ o₂ o₃ end : List ℕ) (size : ℕ) → front ≡ LaidOut.front fields → length front ≡ 44
       → locked ≡ LaidOut.verifier fields → length locked ≡ 72 → o₁ ≡ paste out 0 front 44 → o₂ ≡ paste o₁ 44 name (length name)
-      → o₃ ≡ paste o₂ (44 + length name) locked 72 → left r end ≡ ended 0 (116 + length name) (take (116 + length name) o₃) o₃
-      → left r end ≡ Written.written bits password name salt v filling out
+      → o₃ ≡ paste o₂ (44 + length name) locked 72 → size ≡ 116 + length name → end ≡ zero_from (116 + length name) o₃
+      → left (reply 0 size) end ≡ Written.written bits password name salt v filling out
   unfolding Written.info_of LaidOut.laid_out Written.new_fields
-  written_laid front locked o₁ o₂ o₃ end r f lf l ll e₁ e₂ e₃ d =
+  written_laid front locked o₁ o₂ o₃ end size f lf l ll e₁ e₂ e₃ d z₃ =
       let n : ℕ = length name in
       let m : ℕ = length out - (116 + n) in
       let room : length out ≡ 44 + (n + (72 + m)) = omega (arith, ((writable bits password n (length out)).0 z).roomy) in
-      let size : 116 + n ≡ 44 + n + 72 = omega arith in
+      let long : 116 + n ≡ 44 + n + 72 = omega arith in
       let named = more 44 n (72 + m) name o₂ (more 0 44 (n + (72 + m)) front o₁ (none out (44 + (n + (72 + m))) room) lf e₁) refl e₂ in
       let all : zero_from (116 + n) o₃ ≡ front ++ name ++ locked ++ replicate m 0 =
-      ap (λ (k : ℕ). zero_from k o₃) size ∙ zeroed (more (44 + n) 72 m locked o₃ named ll e₃) in
-      rw (ended_reply _ _ _ _ d, ended_out _ _ _ _ d, all, f, l, write_done bits password name salt v filling out z, append-nil)
+      ap (λ (k : ℕ). zero_from k o₃) long ∙ zeroed (more (44 + n) 72 m locked o₃ named ll e₃) in
+      rw (d, z₃, all, f, l, write_done bits password name salt v filling out z, append-nil)

@@ -1,5 +1,5 @@
 -- What the writer accepts, and the two ways out. Assumes nothing.
-use mathlib.Core.Path.{◌≡◌, refl, sym, ap, ◌∙◌}
+use mathlib.Core.Path.{◌≡◌, refl, ap, ◌∙◌}
 use mathlib.Core.Logic.{◌↔◌}
 use mathlib.Core.Bool.{true, not}
 use mathlib.Core.List.{List, [], ◌∷◌, ◌++◌}
@@ -8,11 +8,15 @@ use native.Mathlib.Omega.{arith}
 use borrow.Author.Tests.{le-ltb, ltb-false, eqb-true, eq-eqb, not-false}
 use lib.Dec.{T}
 use lib.ListN.{length, replicate}
-use Rattle.answers.specs.Rules.{first_of, after, room_rules, numbered, numbers, OneOf}
+use Rattle.std.specs.Prelude.{Err}
+use Rattle.answers.specs.Refusals.{number, reply_of}
+use Rattle.answers.specs.declared.Refusal.{Refusal}
+use Rattle.answers.specs.Rules.{first_of, room_rules, numbered, numbers, OneOf}
 use Rattle.answers.specs.Ended.{Left, left, reply}
-use Rattle.answers.proofs.Laws.{none_broken, then, stop, in_turn, both_zero, numbers_both, by_numbers, room_numbers, roomy}
+use Rattle.answers.proofs.Laws.{none_broken, then, both_zero, numbers_both, by_numbers, room_numbers, roomy}
 use Rattle.answers.proofs.Rows.{◌and◌}
 use Rattle.answers.proofs.Endings.{ended_answer, ended_done}
+use Rattle.answers.proofs.Refusals.{refused}
 use Rattle.aes.specs.Aes.{key_length}
 use Rattle.aes.proofs.Keys.{key_lengths}
 use Rattle.descriptor.proofs.Algorithms.{key_row, key_known, in_bytes}
@@ -66,20 +70,6 @@ module _ (bits : ℕ) (password : List ℕ) (name room : ℕ) where
   pub write_numbered : T (numbered (write_rules bits password name room))
   write_numbered = by_numbers (write_rules bits password name room) _ write_numbers_lem tt
 
-  -- what is laid out decides, and after it the text and the room
-  pub by_fields : (first_of (field_rules bits name) ≡ 0 → ⊥) → first_of (write_rules bits password name room) ≡ first_of (field_rules bits name)
-  unfolding write_rules
-  by_fields h =
-      let e = stop (field_rules bits name) (text_rules password) h in
-      stop (field_rules bits name ++ text_rules password) (room_rules room (info_size name)) (λ z. h (sym e ∙ z)) ∙ e
-
-  pub after_fields : first_of (field_rules bits name) ≡ 0
-      → first_of (write_rules bits password name room) ≡ after (first_of (text_rules password)) (first_of (room_rules room (info_size name)))
-  unfolding write_rules
-  after_fields h =
-      in_turn (field_rules bits name ++ text_rules password) (room_rules room (info_size name)) early_numbered
-      ∙ rw (then (field_rules bits name) (text_rules password) (field_numbered bits name) h)
-
   to_writable : first_of (write_rules bits password name room) ≡ 0 → Writable bits password name room
   unfolding write_rules info_size
   to_writable h =
@@ -121,6 +111,10 @@ module _ (bits : ℕ) (password name salt verifier filling out : List ℕ) where
   pub write_answer : given.reply.answer ≡ answer
   unfolding written
   write_answer = ended_answer _ _ _ _
+
+  pub write_refused : (r : Refusal) → number r ≡ answer → left (reply_of (Err r)) out ≡ given
+  unfolding written
+  write_refused r e = refused r answer e (info_size (length name)) (info_of bits password name salt verifier filling) out
 
   pub write_done : answer ≡ 0
       → given ≡ left (reply 0 (116 + length name)) (info_of bits password name salt verifier filling ++ replicate (length out - (116 + length name)) 0)

@@ -1,51 +1,45 @@
 // Writes the EncryptionInfo stream of a new locked document (request 2026-01; 004 2.3.4.5 and, for its EncryptionVerifier, 2.3.4.8).
 //
-//     let r = writer::write_info(BitCount(256), password, name, salt, verifier, filling, &mut out);
-//     if r.answer == answers::DONE { .. the first r.size bytes of out are an EncryptionInfo that accepts the password .. }
+//     let size = writer::write_info(BitCount(256), password, name, salt, verifier, filling, &mut out)?;
 //
-// The call says in full what it leaves, as those of `sheet` do: on answer 0 the stream and then zeros to the end of the output, on any
-// other size 0 and the output as it was. The name is written as given: who wants a zero unit at its end gives one.
+// The first `size` bytes of out are then an EncryptionInfo that accepts the password. The call says in full what it leaves, as
+// those of `sheet` do: the stream and then zeros to the end of the output, on a refusal the output as it was. The name is written as
+// given: who wants a zero unit at its end gives one.
 //
 // Warning: salt, verifier and filling have to be random, and nothing here can tell whether they are.
 
 #![tactic(auto)]
 
-ghost use Rattle.std.specs.Prelude.{◌≡◌};
+ghost use Rattle.std.specs.Prelude.{◌≡◌, IfOk};
+ghost use Rattle.answers.specs.Refusals.{answer_of, reply_of};
 ghost use Rattle.answers.specs.Rules.{first_of};
 ghost use Rattle.answers.specs.Ended.{left};
+ghost use Rattle.descriptor.specs.Info.{alg_id_of};
 ghost use Rattle.writer.specs.Written as Written;
 
 mod header;
 mod verifier;
 
-use answers::Reply;
+use answers::{Refusal, rule};
+use derivation::Salted;
 use descriptor::BitCount;
 
 // The most bytes of a name.
 const NAME_LIMIT: usize = 4064;
 
-// The first of the rules 3, 5 and 8 that is broken; 0 where none is.
-fn fields_answer(bits: BitCount, name: usize) -> u16
-    ensures { result ≡ first_of (Written.field_rules bits.0 name) }
+// The rules 3, 5, 8, 11 and 16, in order: where they hold the AlgID of the key size. Only a name that is short enough is counted with the
+// 116 bytes around it.
+#[tactic(auto, unfolding(crate::specs::Written::write_rules, crate::specs::Written::field_rules, crate::specs::Written::name_limit, crate::specs::Written::info_size, password::specs::Verdict::text_rules, answers::specs::Rules::room_rules, answers::specs::Rules::first_of))]
+fn answer(bits: BitCount, password: &[u16], name: usize, room: usize) -> Result<u32, Refusal>
+    ensures rules { answer_of result ≡ first_of (Written.write_rules bits.0 password.now name room) }
+    ensures alg_id { IfOk result (λ alg_id. alg_id ≡ alg_id_of bits.0) }
 {
-    let unknown = descriptor::alg_id_of(bits) == 0;
-    let rest = answers::first(unknown, answers::KEY_SIZE, answers::DONE);
-    let rest = answers::first(name % 2 != 0, answers::NAME_LENGTH, rest);
-    answers::first(NAME_LIMIT < name, answers::HEADER_SIZE, rest)
-}
-
-// The first rule that is broken; 0 where none is. Only a name that is short enough is counted with the 116 bytes around it.
-fn answer(bits: BitCount, password: &[u16], name: usize, room: usize) -> u16
-    ensures { result ≡ first_of (Written.write_rules bits.0 password.now name room) }
-{
-    let a = fields_answer(bits, name);
-    if a != answers::DONE {
-        return a;
-    }
-    answers::then(
-        password::text_answer(password),
-        answers::room_answer(room, 116 + name),
-    )
+    rule(NAME_LIMIT < name, Refusal::HeaderSize)?;
+    rule(name % 2 != 0, Refusal::NameLength)?;
+    let alg_id = descriptor::alg_id_of(bits).ok_or(Refusal::KeySize)?;
+    password::text_answer(password)?;
+    answers::room_answer(room, 116 + name)?;
+    Ok(alg_id)
 }
 
 // Writes EncryptionInfo into out.
@@ -57,19 +51,17 @@ pub fn write_info(
     verifier: [u8; 16],
     filling: [u8; 12],
     out: &mut [u8],
-) -> Reply
-    ensures { left result out.new ≡ Written.written bits.0 password.now name.now salt verifier filling out.old }
+) -> Result<usize, Refusal>
+    ensures { left (reply_of result) out.new ≡ Written.written bits.0 password.now name.now salt verifier filling out.old }
 {
     let n = name.len();
-    let a = answer(bits, password, n, out.len());
-    if a != answers::DONE {
-        return answers::ended(a, 0, out);
-    }
-    let front = header::front(bits, n);
-    let key = derivation::expanded_key(descriptor::in_bytes(bits), salt, password);
+    let alg_id = answer(bits, password, n, out.len())?;
+    let front = header::front(bits, alg_id, n);
+    let salted = Salted { salt, password };
+    let key = salted.expanded_key(bits.into()).round_keys();
     let locked = verifier::locked(key, salt, verifier, filling);
     octets::copy(&front, 0, 44, out, 0);
     octets::copy(name, 0, n, out, 44);
     octets::copy(&locked, 0, 72, out, 44 + n);
-    answers::ended(answers::DONE, 116 + n, out)
+    Ok(answers::done(116 + n, out))
 }

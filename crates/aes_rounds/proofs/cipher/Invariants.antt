@@ -1,10 +1,7 @@
 use mathlib.Core.Path.{◌≡◌}
-use Prim.Native.Nat.{◌-◌, ◌<◌, ◌≤◌}
+use Prim.Native.Nat.{◌-◌}
 use Rattle.fips197.specs.Cipher as Cipher
 use Rattle.aes_rounds.proofs.cipher.Given as goal
 
 abbrev pub invariant-loop-n : goal.invariant-loop-n
-invariant-loop-n l = (0 < l.n) × (l.n ≤ l.rounds) × (l.s ≡ Cipher.rounds (Cipher.round_key l.w) (l.n - 1) l.initial.s)
-
-abbrev pub decreases-loop-n : goal.decreases-loop-n
-decreases-loop-n l = l.rounds - l.n
+invariant-loop-n l = l.s ≡ Cipher.rounds (Cipher.round_key l.w) (l.n - 1) l.initial.s

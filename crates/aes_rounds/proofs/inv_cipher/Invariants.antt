@@ -1,10 +1,8 @@
 use mathlib.Core.Path.{◌≡◌}
-use Prim.Native.Nat.{◌-◌, ◌<◌}
+use Prim.Native.Nat.{◌-◌}
 use Rattle.fips197.specs.Cipher as Cipher
 use Rattle.aes_rounds.proofs.inv_cipher.Given as goal
 
 abbrev pub invariant-loop-n : goal.invariant-loop-n
-invariant-loop-n l = (l.n < l.rounds) × (Cipher.inv_rounds (Cipher.round_key l.w) l.n l.s ≡ Cipher.inv_rounds (Cipher.round_key l.w) (l.rounds - 1) l.initial.s)
-
-abbrev pub decreases-loop-n : goal.decreases-loop-n
-decreases-loop-n l = l.n
+invariant-loop-n l =
+    Cipher.inv_rounds (Cipher.round_key l.w) (l.n - 1) l.s ≡ Cipher.inv_rounds (Cipher.round_key l.w) (l.rounds - 1) l.initial.s

@@ -1,19 +1,17 @@
--- The column's word, laid in four bytes.
-use mathlib.Core.Path.{refl, ap, ◌∙◌}
+-- The column's word, as its four bytes.
+use mathlib.Core.Path.{◌∙◌}
+use mathlib.Core.List.{[], ◌∷◌}
 use native.Mathlib.Omega.{arith}
-use lib.ListN.{replicate}
-use Rattle.octets.specs.Octets.{le_bytes}
-use Rattle.octets.proofs.Numbers.{le_bytes_le, le_bytes_over}
-use Rattle.fips197.specs.Cipher.{columns, inv_mix_columns}
+use Rattle.fips197.specs.Cipher.{inv_mix_columns}
+use Rattle.fips197.proofs.Columns.{length_inv_mix_columns}
 use Rattle.fips197.proofs.Shares.{looked_up}
+use Rattle.products.proofs.Numbers.{bytes_four}
 use Rattle.aes_rounds.proofs.inv_mix_column.Goals as goal
 
 pub returns : goal.returns
-unfolding columns inv_mix_columns
+unfolding inv_mix_columns
 returns c =
     let a = c.args in
+    let column = a.a ∷ a.b ∷ a.c ∷ a.d ∷ [] in
     let mixed = looked_up 14 11 13 9 (λ x. x) a.shares.now a.a a.b a.c a.d (omega arith) (omega arith) (omega arith) (omega arith) c.requires in
-    c.put_le32.ensures ∙ le_bytes_over 4 _ (replicate 4 0) refl ∙ ap (le_bytes 4) (c.column.ensures ∙ mixed.0) ∙ le_bytes_le _ mixed.1
-
-pub column-requires : goal.column-requires
-column-requires c = c.requires.long
+    c.to_le_bytes.ensures ∙ bytes_four (inv_mix_columns column) _ (length_inv_mix_columns column) mixed.1 (c.column.ensures ∙ mixed.0)

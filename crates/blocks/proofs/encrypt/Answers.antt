@@ -1,4 +1,4 @@
--- The key, the table and the filling are copied once, the words laid once, and all are lent.
+-- The words are laid once, and lent with the table and the key.
 use mathlib.Core.Path.{refl}
 use Rattle.fips197.specs.Tables.{sbox}
 use Rattle.blocks.proofs.encrypt.Goals as goal
@@ -7,6 +7,6 @@ pub lay_forward-requires : goal.lay_forward-requires
 unfolding sbox
 lay_forward-requires c = refl
 
-pub encrypt_with-requires-clause-table_value : goal.encrypt_with-requires-clause-table_value
+pub invariant_of-encryption : goal.invariant_of-encryption
 unfolding sbox
-encrypt_with-requires-clause-table_value c = (refl, c.lay_forward.ensures)
+invariant_of-encryption c = record { in_range = c.args.key.in_range; tables = (refl, c.lay_forward.ensures) }

@@ -1,13 +1,12 @@
--- The block of two numbers, encrypted.
+-- The block of two numbers.
 use mathlib.Core.Path.{ap, ◌∙◌}
 use Rattle.aes.specs.Aes as Aes
-use Rattle.aes.specs.declared.Reply.{Reply}
 use Rattle.capi.specs.Capi as Capi
+use Rattle.capi.proofs.Ended.{block_written}
 use Rattle.capi.proofs.ropeshadow_aes_encrypt.Goals as goal
 
 pub returns : goal.returns
 unfolding Capi.encrypt_outcome
 returns c =
-    let a = c.args in
-    c.written.ensures
-    ∙ ap (λ (r : Reply). Capi.block_outcome r a.out.now) (c.encrypt.ensures ∙ ap (Aes.encrypted a.key.now) c.sixteen.ensures)
+    c.written.ensures ∙ block_written _ _
+    ∙ ap (λ (r : Aes.BlockReply). Capi.block_outcome r c.args.out.now) (c.encrypt.ensures ∙ ap (Aes.encrypted c.args.key.now) c.sixteen.ensures)

@@ -7,4 +7,4 @@ use Rattle.capi.proofs.ropeshadow_verdict.Goals as goal
 
 pub returns : goal.returns
 unfolding Capi.verdict_word
-returns c = c.word.ensures ∙ ap (λ (n : ℕ). reply_word n 0) c.verdict.ensures
+returns c = c.word.ensures ∙ ap (λ (n : ℕ). reply_word n 0) (c.number.ensures ∙ c.verdict.ensures)

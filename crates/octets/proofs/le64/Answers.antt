@@ -1,9 +1,6 @@
--- The low half, and the high half above it.
-use native.Mathlib.Omega.{arith}
-use Rattle.octets.proofs.Numbers.{le_at_add}
+use mathlib.Core.Path.{◌∙◌}
+use Rattle.octets.proofs.Numbers.{le_sum}
 use Rattle.octets.proofs.le64.Goals as goal
 
 pub returns : goal.returns
-returns c =
-    let a = c.args in
-    omega (arith, le_at_add 4 4 a.at a.s.now)
+returns c = c.from_le_bytes.ensures ∙ le_sum 7 _ ∙ c.padded.ensures

@@ -1,13 +1,7 @@
--- The pair is v's two bytes, since v / 256 is a byte already.
-use mathlib.Core.Path.{◌≡◌, ◌∙◌}
-use Prim.Native.Nat.{◌/◌, ◌%◌}
-use native.Mathlib.Omega.{arith}
-use Rattle.octets.specs.Octets.{le_bytes}
+use mathlib.Core.Path.{ap, ◌∙◌}
+use lib.Seq.{paste}
+use Rattle.octets.proofs.Numbers.{low_first_bytes}
 use Rattle.octets.proofs.put_le16.Goals as goal
 
 pub returns : goal.returns
-unfolding le_bytes
-returns c =
-    let a = c.args in
-    let high : a.v / 256 % 256 ≡ a.v / 256 = omega arith in
-    c.put_pair.ensures ∙ rw high
+returns c = c.copy.ensures ∙ ap (λ x. paste c.args.d.now c.args.at x 2) (c.to_le_bytes.ensures ∙ low_first_bytes 2 c.args.v)

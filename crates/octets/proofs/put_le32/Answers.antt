@@ -1,9 +1,7 @@
--- Two halves, one after the other.
-use native.Mathlib.Omega.{arith}
-use Rattle.octets.proofs.Laid.{low_first}
+use mathlib.Core.Path.{ap, ◌∙◌}
+use lib.Seq.{paste}
+use Rattle.octets.proofs.Numbers.{low_first_bytes}
 use Rattle.octets.proofs.put_le32.Goals as goal
 
 pub returns : goal.returns
-returns c =
-    let a = c.args in
-    low_first 2 2 a.v a.at a.d.now _ _ (omega arith) c.put_le16.ensures c.put_le16-2.ensures
+returns c = c.copy.ensures ∙ ap (λ x. paste c.args.d.now c.args.at x 4) (c.to_le_bytes.ensures ∙ low_first_bytes 4 c.args.v)

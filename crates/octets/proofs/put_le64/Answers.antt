@@ -1,9 +1,7 @@
--- Two halves, one after the other.
-use native.Mathlib.Omega.{arith}
-use Rattle.octets.proofs.Laid.{low_first}
+use mathlib.Core.Path.{ap, ◌∙◌}
+use lib.Seq.{paste}
+use Rattle.octets.proofs.Numbers.{low_first_bytes}
 use Rattle.octets.proofs.put_le64.Goals as goal
 
 pub returns : goal.returns
-returns c =
-    let a = c.args in
-    low_first 4 4 a.v a.at a.d.now _ _ (omega arith) c.put_le32.ensures c.put_le32-2.ensures
+returns c = c.copy.ensures ∙ ap (λ x. paste c.args.d.now c.args.at x 8) (c.to_le_bytes.ensures ∙ low_first_bytes 8 c.args.v)

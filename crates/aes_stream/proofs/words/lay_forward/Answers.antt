@@ -1,14 +1,10 @@
 -- The shares of MixColumns, at the places of the substitution table.
-use mathlib.Core.Path.{ap, subst, subst⁻¹, ◌∙◌}
-use lib.ListN.{length}
+use mathlib.Core.Path.{subst, subst⁻¹}
 use Rattle.octets.specs.Octets.{Bytes}
 use Rattle.fips197.specs.Tables.{look}
-use Rattle.fips197.proofs.Entries.{length_sbox, sbox_bytes}
+use Rattle.fips197.proofs.Entries.{sbox_bytes}
 use Rattle.aes_stream.specs.Words.{Rows}
 use Rattle.aes_stream.proofs.words.lay_forward.Goals as goal
-
-pub substituted-requires : goal.substituted-requires
-substituted-requires c = (ap length c.requires ∙ length_sbox, c.shares-mix.ensures.long)
 
 pub returns : goal.returns
 returns c =

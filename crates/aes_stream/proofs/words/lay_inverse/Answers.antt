@@ -1,14 +1,10 @@
 -- The shares of InvMixColumns, at the places of the inverse table.
-use mathlib.Core.Path.{ap, subst, subst⁻¹, ◌∙◌}
-use lib.ListN.{length}
+use mathlib.Core.Path.{subst, subst⁻¹}
 use Rattle.octets.specs.Octets.{Bytes}
 use Rattle.fips197.specs.Tables.{look}
-use Rattle.fips197.proofs.Entries.{length_inv_sbox, inv_sbox_bytes}
+use Rattle.fips197.proofs.Entries.{inv_sbox_bytes}
 use Rattle.aes_stream.specs.Words.{Rows}
 use Rattle.aes_stream.proofs.words.lay_inverse.Goals as goal
-
-pub substituted-requires : goal.substituted-requires
-substituted-requires c = (ap length c.requires.0 ∙ length_inv_sbox, c.requires.1.long)
 
 pub returns : goal.returns
 returns c =

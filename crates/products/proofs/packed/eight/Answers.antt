@@ -1,14 +1,17 @@
--- Two words, the second above the first.
-use mathlib.Core.Path.{sym}
-use lib.ListN.{drop}
+-- The library reads the bytes that stand there.
+use mathlib.Core.Path.{ap, ◌∙◌}
+use lib.ListN.{length, drop}
+use Rattle.octets.specs.Octets.{le, le_at}
 use Rattle.octets.proofs.Below.{take_below, drop_below}
-use Rattle.octets.proofs.Numbers.{le_at_add}
+use Rattle.octets.proofs.Parts.{length_part}
+use Rattle.products.proofs.Numbers.{le_eight}
 use Rattle.products.proofs.packed.eight.Goals as goal
 
 pub returns : goal.returns
+unfolding le_at
 returns c =
     let s = c.args.s.now in
     let at = c.args.at in (
-      rw (c.four-low.ensures.0, c.four-high.ensures.0) (sym (le_at_add 4 4 at s)),
-      take_below 8 (drop at s) (drop_below at s (record { at = λ i. (c.shared_slice_known-1.given i).fits })),
+      c.from_le_bytes.ensures ∙ le_eight c.part.result (ap length c.part.ensures ∙ length_part 8 at s c.requires) ∙ ap le c.part.ensures,
+      take_below 8 (drop at s) (drop_below at s (record { at = λ i. (c.type_inv.s i).fits })),
     )

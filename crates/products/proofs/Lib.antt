@@ -1,0 +1,2 @@
+-- `Numbers`: the numbers of bytes of the library are those of the documents.
+pub mod Numbers

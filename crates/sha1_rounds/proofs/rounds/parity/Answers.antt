@@ -1,8 +1,0 @@
--- The definition's own operations.
-use Rattle.std.proofs.Common.{refl}
-use Rattle.sha1_rounds.specs.Compression as fips
-use Rattle.sha1_rounds.proofs.rounds.parity.Goals as goal
-
-pub returns : goal.returns
-unfolding fips.parity
-returns c = refl
