@@ -47,7 +47,7 @@ impl Expanded {
 }
 
 // The expanded key; all zero, with no rounds, for a key that is not of 16, 24 or 32 bytes.
-// kept: no Option, since `expanded` promises the zeros, and who calls with any key can't fail
+// kept: no Option: its clause gives zeros and no rounds for another key, and a call that can't fail stays so (Aes.antt `expanded`)
 pub fn expand(key: &[u8]) -> Expanded
     ensures { result ≡ Aes.expanded key.now }
 {

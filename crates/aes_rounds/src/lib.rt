@@ -139,7 +139,6 @@ pub fn add_round_key(w: &[u8; 240], n: usize, s: [u8; 16]) -> [u8; 16]
 }
 
 // Round n of the cipher, before the last.
-// kept: which tables are lent stands in clauses and in no struct: a lone block is all that one would be made for (aes, `encrypt_block`)
 #[tactic(auto, unfolding(fips197::specs::Cipher::sub_bytes, fips197::specs::Cipher::round))]
 fn round(w: &[u8; 240], n: usize, table: &[u8; 256], s: [u8; 16]) -> [u8; 16]
     requires { (n ≤ 14) × (table.now ≡ Tables.sbox) }

@@ -31,7 +31,6 @@ impl<'a> Decryption<'a> {
     }
 
     // Rounds `rounds` - 1 down to 1, two a turn as in Encryption.
-    // kept: a while that moves by two, as there
     #[tactic(auto, using(fips197::proofs::Steps::inv_rounds_less), unfolding(fips197::specs::Cipher::inv_rounds))]
     fn between(&self, first: [u8; 16]) -> [u8; 16]
         ensures { result ≡ Cipher.inv_rounds (Cipher.round_key self.now.w.now) (self.now.rounds - 1) first }

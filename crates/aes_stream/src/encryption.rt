@@ -29,7 +29,6 @@ impl<'a> Encryption<'a> {
 
     // Rounds 1 to `rounds` - 1, two a turn: at the end of a turn the compiler takes every byte out of its word to carry it round the
     // loop, and between two rounds of a turn only where it is looked up.
-    // kept: a while that moves by two: two rounds a turn are a fifth faster than one (docs/SPEED.md, "The ciphers of a stream")
     #[tactic(auto, using(fips197::proofs::Steps::rounds_none, fips197::proofs::Steps::rounds_more))]
     fn between(&self, first: [u8; 16]) -> [u8; 16]
         ensures { result ≡ Cipher.rounds (Cipher.round_key self.now.w.now) (self.now.rounds - 1) first }

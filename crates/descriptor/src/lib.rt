@@ -17,7 +17,7 @@ use answers::{Refusal, rule};
 use octets::{le16, le32, part};
 
 // The schemes: each block by itself (000 section 7), and chained in segments (001, 003).
-// kept: numbers, since the C interface gives any number (ropeshadow_parse), which rule 19 judges
+// kept: what `parse` is given is a number, since the C interface gives any (ropeshadow_parse), which rule 19 judges
 pub const ECB: u64 = 1;
 
 pub const CHAINED: u64 = 2;

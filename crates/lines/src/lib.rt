@@ -1,14 +1,9 @@
-// What the programs print with beside `print!`: texts as they are, and bytes in hexadecimal, on standard output. No contract can say
+// What the programs print with beside `print!`: bytes in hexadecimal, on standard output. No contract can say
 // what is printed; the gate compares it with each program's file stdout.
 
 #![tactic(auto)]
 
 use std::io;
-
-// A text as it is.
-pub fn text(rt: &impl Print, s: &[u8]) -> io::Result<()> {
-    rt.write_all(s)
-}
 
 // Bytes in hexadecimal.
 pub fn hex(rt: &impl Print, s: &[u8]) -> io::Result<()> {

@@ -22,27 +22,29 @@ fn read_some(file: &mut impl Read, room: &mut [u8]) -> io::Result<usize>
     file.read(room)
 }
 
-// Reads until the room is full or nothing more comes: a read may give fewer bytes than were asked for. A folder can be opened, and only
-// reading it fails.
-fn read_all<'a>(file: &mut impl Read, room: &'a mut [u8]) -> io::Result<&'a [u8]>
-    ensures { IfOk result (λ s. length s.now ≤ length room.old) }
+// Reads until the room is full or nothing more comes, since a read may give fewer bytes than were asked for: the bytes that came, and
+// whether reading went well. A folder can be opened, and only reading it fails.
+pub fn read_all<'a>(file: &mut impl Read, room: &'a mut [u8]) -> (&'a [u8], io::Result<()>)
+    ensures { length result.0.now ≤ length room.old }
 {
     let mut size = 0;
     // kept: a while: a read says how far it came, so no range counts the turns
     while size < room.len() {
-        let more = read_some(file, &mut room[size..])?;
-        if more == 0 {
-            return Ok(&room[..size]);
+        match read_some(file, &mut room[size..]) {
+            Ok(0) => return (&room[..size], Ok(())),
+            Ok(more) => size += more,
+            Err(why) => return (&room[..size], Err(why)),
         }
-        size += more;
     }
-    Ok(room)
+    (room, Ok(()))
 }
 
-// The file of that name in the folder that the program was started in.
+// The file of that name in the folder that the program was started in, where all of it could be read.
 pub fn read_file<'a>(rt: &impl Files, name: &str, room: &'a mut [u8]) -> io::Result<&'a [u8]>
     ensures { IfOk result (λ s. length s.now ≤ length room.old) }
 {
     let mut file = File::open(rt, name)?;
-    read_all(&mut file, room)
+    let (bytes, ended) = read_all(&mut file, room);
+    ended?;
+    Ok(bytes)
 }

@@ -13,6 +13,7 @@ ghost use Rattle.answers.specs.Refusals.{reply_of};
 ghost use Rattle.program.specs.Run.{OpensFiles, Settled};
 
 use answers::Refusal;
+use std::fs::File;
 use std::io;
 use std::rt::Files;
 
@@ -65,10 +66,13 @@ pub fn run(rt: &(impl Files + Print + Eprint + AllocGlobal)) -> io::Result<()> {
     print_line(rt, settled(rt, opened, sheet))
 }
 
-// What sheet.bin holds, in hexadecimal: for programs that show that an older sheet is replaced, or left as it was.
+// What sheet.bin holds, in hexadecimal, as far as it can be read: for programs that show that an older sheet is replaced, or left as it
+// was.
 pub fn show_sheet(rt: &(impl Files + Print)) -> io::Result<()> {
     let mut room = [0u8; input::ROOM];
-    let sheet = input::read_file(rt, "sheet.bin", &mut room).unwrap_or(&[]);
-    lines::hex(rt, sheet)?;
-    lines::text(rt, b"\n")
+    if let Ok(mut file) = File::open(rt, "sheet.bin") {
+        let (sheet, _) = input::read_all(&mut file, &mut room);
+        lines::hex(rt, sheet)?;
+    }
+    println!(rt)
 }

@@ -20,7 +20,6 @@ pub fn fail(rt: &(impl Eprint + AllocGlobal), why: io::Error) {
 }
 
 // The other name with that digit, or with 9.
-// kept: ten names written out: a name made of its digit would need the heap before the sheet is written
 fn beside(digit: u8) -> &'static str
     ensures { 11 ≡ length result.now }
 {

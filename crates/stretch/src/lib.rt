@@ -51,7 +51,6 @@ fn answer(stream: &[u8], from: usize, to: usize, room: usize) -> Result<(), Refu
 }
 
 // Opens the bytes of a package from one place up to another into out.
-// kept: two ends and no Range: rule 20 judges ends in any order, and the C interface has two numbers
 #[tactic(auto, using(crate::proofs::Laws::stretch_locked, crate::proofs::Laws::stretch_unfit))]
 pub fn open(
     lock: &Lock,
