@@ -79,11 +79,13 @@ pub fn check(repo: &Repo, report: &mut Report) -> usize {
     let schemes = header.split_off(header.partition_point(|a| a.line <= end));
     let refusals = refusals(repo.text(CRATE));
     let numbers = as_header(read(repo.text(NUMBERS), "number "));
-    let done = header.iter().find(|a| a.name == DONE).map(|a| (a.line, a.number.clone()));
-    if let Some((line, _)) = done.filter(|(_, number)| number != "0") {
-        report.fault(HEADER, line, format!("{DONE} is not 0"));
+    let (done, header): (Vec<_>, Vec<_>) = header.into_iter().partition(|a| a.name == DONE);
+    if done.is_empty() {
+        report.fault(HEADER, 1, format!("{DONE} = 0 is not there"));
     }
-    header.retain(|a| a.name != DONE);
+    for a in done.iter().filter(|a| a.number != "0") {
+        report.fault(HEADER, a.line, format!("{DONE} is not 0"));
+    }
     alike(&header, HEADER, &refusals, CRATE, report);
     alike(&refusals, CRATE, &header, HEADER, report);
     alike(&refusals, CRATE, &numbers, NUMBERS, report);

@@ -40,7 +40,7 @@ impl Ciphertext<'_> {
     }
 
     // The first `size` bytes from a block of the package on, at the front of out.
-    #[tactic(auto, using(crate::proofs::Laid::blocks_laid))]
+    #[tactic(auto, using(crate::proofs::Laid::lent_blocks))]
     fn open_blocks(&self, number: usize, size: usize, out: &mut [u8])
         requires within { 16 * number + size ≤ 16 * (length self.now.blocks.now / 16) }
         requires room { size ≤ length out.old }
@@ -53,7 +53,7 @@ impl Ciphertext<'_> {
     }
 
     // `size` bytes of the package, all in one block, at the front of out.
-    #[tactic(auto, using(crate::proofs::Laid::within_laid))]
+    #[tactic(auto, using(crate::proofs::Laid::lent_within))]
     fn open_within(&self, from: usize, size: usize, out: &mut [u8])
         requires within { from + size ≤ 16 * (length self.now.blocks.now / 16) }
         requires one_block { from % 16 + size ≤ 16 }
@@ -69,7 +69,7 @@ impl Ciphertext<'_> {
     }
 
     // `size` bytes of the package at the front of out: those before the next block begins, and then block after block.
-    #[tactic(auto, using(crate::proofs::Laid::bytes_laid))]
+    #[tactic(auto, using(crate::proofs::Laid::lent_bytes))]
     pub fn open_bytes(&self, from: usize, size: usize, out: &mut [u8])
         requires within { from + size ≤ 16 * (length self.now.blocks.now / 16) }
         requires room { size ≤ length out.old }

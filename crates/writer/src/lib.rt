@@ -10,7 +10,8 @@
 
 #![tactic(auto)]
 
-ghost use Rattle.std.specs.Prelude.{◌≡◌, IfOk};
+ghost use Rattle.std.specs.Prelude.{◌≡◌, ◌+◌, ◌≤◌, length, IfOk};
+ghost use Rattle.std.proofs.Math.Seq.{paste};
 ghost use Rattle.answers.specs.Refusals.{answer_of, reply_of};
 ghost use Rattle.answers.specs.Rules.{first_of};
 ghost use Rattle.answers.specs.Ended.{left};
@@ -42,6 +43,17 @@ fn answer(bits: BitCount, password: &[u16], name: usize, room: usize) -> Result<
     Ok(alg_id)
 }
 
+// The name as it is given, behind the 44 bytes before it. A loop: as a copy out of one lent slice into another, of any length, it would call
+// memmove, and the archive calls memcpy and memset alone.
+fn put_name(name: &[u8], out: &mut [u8])
+    requires { 44 + length name.now ≤ length out.old }
+    ensures { out.new ≡ paste out.old 44 name.now (length name.now) }
+{
+    for (i, byte) in name.iter().enumerate() {
+        out[44 + i] = *byte;
+    }
+}
+
 // Writes EncryptionInfo into out.
 pub fn write_info(
     bits: BitCount,
@@ -61,7 +73,7 @@ pub fn write_info(
     let key = salted.expanded_key(bits.into()).round_keys();
     let locked = verifier::locked(key, salt, verifier, filling);
     octets::copy(&front, 0, 44, out, 0);
-    octets::copy(name, 0, n, out, 44);
+    put_name(name, out);
     octets::copy(&locked, 0, 72, out, 44 + n);
     Ok(answers::done(116 + n, out))
 }

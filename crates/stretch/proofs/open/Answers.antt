@@ -10,7 +10,7 @@ use Rattle.sheet.specs.Scheme.{mode_of}
 use Rattle.sheet.proofs.Lengths.{openable_blocks}
 use Rattle.sheet.proofs.Scheme.{mode_size}
 use Rattle.stretch.proofs.Laws.{Reachable, reachable, reachable_opens}
-use Rattle.stretch.proofs.Laid.{stretch_written}
+use Rattle.stretch.proofs.Laid.{unlocked_stretch}
 use Rattle.stretch.proofs.open.Goals as goal
 use Rattle.stretch.proofs.open.Goals.{In_ok-answer}
 
@@ -45,5 +45,5 @@ open_bytes-requires c =
 
 pub returns : goal.returns
 returns c =
-    rw c.done.ensures.0 (stretch_written _ c.in_ok-fields.field-0 c.in_ok-fields.ensures _ _ _ _ _ _ _ _ (reached (goal.at.returns c).In_ok-answer) c.span-size.ensures
+    rw c.done.ensures.0 (unlocked_stretch _ c.in_ok-fields.field-0 c.in_ok-fields.ensures _ _ _ _ _ _ _ _ (reached (goal.at.returns c).In_ok-answer) c.span-size.ensures
     (c.mode_of-mode.ensures ∙ ap (mode_of _) c.stream_size.ensures) c.open_bytes.ensures c.done.ensures.1)

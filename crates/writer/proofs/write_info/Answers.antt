@@ -58,13 +58,13 @@ copy-requires c =
     let n : length c.front-front.result ≡ 44 = search rules in
     (omega arith, omega (arith, (fit (goal.at.copy-requires c).In_ok-alg_id).roomy))
 
-pub copy-requires-2 : goal.copy-requires-2
-copy-requires-2 c = (omega arith, omega (arith, (fit (goal.at.copy-requires-2 c).In_ok-alg_id).roomy, c.copy.auto.d))
+pub put_name-requires : goal.put_name-requires
+put_name-requires c = omega (arith, (fit (goal.at.put_name-requires c).In_ok-alg_id).roomy, c.copy.auto.d)
 
-pub copy-requires-3 : goal.copy-requires-3
-copy-requires-3 c =
+pub copy-requires-2 : goal.copy-requires-2
+copy-requires-2 c =
     let n : length c.locked-locked.result ≡ 72 = search rules in
-    (omega arith, omega (arith, (fit (goal.at.copy-requires-3 c).In_ok-alg_id).roomy, c.copy-2.auto.d, c.copy.auto.d))
+    (omega arith, omega (arith, (fit (goal.at.copy-requires-2 c).In_ok-alg_id).roomy, c.put_name.auto.out, c.copy.auto.d))
 
 pub returns : goal.returns
 returns c =
@@ -77,4 +77,4 @@ returns c =
     written_laid a.bits.0 _ _ a.salt a.verifier a.filling _ (sym c.in_ok-alg_id.ensures.rules) _ _ _ _ _ _ _
     (c.front-front.ensures k a.name.now a.salt a.verifier a.filling refl) lf
     (c.locked-locked.ensures a.bits.0 k a.name.now (key_fits a.bits.0 a.salt a.password.now f.key) (c.round_keys-key.ensures ∙ key w.After-expanded_key)) ll
-    c.copy.ensures c.copy-2.ensures c.copy-3.ensures c.done.ensures.0 c.done.ensures.1
+    c.copy.ensures c.put_name.ensures c.copy-2.ensures c.done.ensures.0 c.done.ensures.1
