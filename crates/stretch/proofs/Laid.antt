@@ -10,7 +10,7 @@ use borrow.Author.Tests.{ltb-true, ltb-false}
 use lib.Dec.{ltb}
 use Rattle.std.specs.Prelude.{Ok, min}
 use lib.ListN.{length, take, drop, replicate, length-take, length-drop, drop_of_length-le}
-use lib.Seq.{paste, paste-zero, take_all, drop-drop, length-paste}
+use lib.Seq.{paste, take_all, drop-drop, length-paste}
 use Rattle.octets.specs.Octets.{zero_from}
 use Rattle.octets.proofs.Parts.{part_part, paste_on, paste_whole}
 use Rattle.answers.specs.Rules.{first_of}
@@ -71,10 +71,6 @@ module _ (m : Mode) (w : List ℕ) (rounds : ℕ) (t : List ℕ) where
       e ∙ ap (λ (x : List ℕ). paste out 0 x size) (ap (open_all (step_from p m w rounds)) all ∙ from_block p i hn hb (omega arith))
 
   -- ---- the bytes
-
-  -- none
-  pub none_laid : (from size : ℕ) (out : List ℕ) → size ≡ 0 → out ≡ paste out 0 (drop from opened) size
-  none_laid from size out e = paste-zero out 0 (drop from opened) ∙ ap (paste out 0 (drop from opened)) (sym e)
 
   -- of one block
   pub within_laid : (from size : ℕ) (out block end : List ℕ) → from % 16 + size ≤ 16
